@@ -1,0 +1,6 @@
+-- What is proved once about the words. Nothing here knows of a book.
+pub mod Cases
+pub mod Rules
+pub mod Below
+pub mod Lists
+pub mod Runs
