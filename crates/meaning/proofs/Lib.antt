@@ -4,3 +4,6 @@ pub mod Places
 pub mod Clock
 pub mod SetupRules
 pub mod Sound
+pub mod Held
+pub mod Accepted
+pub mod Keeps
