@@ -173,3 +173,9 @@ module _ (i : ℕ) where
       on (eqb x i)
       (λ e. absurd (not-suc-le-zero (rw e at m)))
       (λ e. rw e (ap suc (find-set-new xs f (le-of-suc-le-suc (rw e at m)) (le-of-suc-le-suc h))))
+
+  -- a list that holds another number everywhere
+  pub find-replicate : (n j : ℕ) → j ≢ i → find i (replicate n j) ≡ n
+  unfolding find
+  find-replicate zero j m = refl
+  find-replicate (suc n) j m = rw (ne-eqb j i m) (ap suc (find-replicate n j m))

@@ -7,3 +7,5 @@ pub mod Sound
 pub mod Held
 pub mod Accepted
 pub mod Keeps
+pub mod Moves
+pub mod History

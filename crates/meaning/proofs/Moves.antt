@@ -1,0 +1,177 @@
+-- One accepted call and one place: what stands afterwards is what the call gives where it concerns the place, and else what stood.
+use mathlib.Core.Bool.{Bool, true, false, cond, _&&_, false≢true}
+use mathlib.Core.List.{List, [], _∷_}
+use mathlib.Core.Logic.{_⊎_, inl, inr, ⊎-elim}
+use mathlib.Core.Path.{_≡_, refl, sym, ap, _∙_, subst}
+use Prim.Native.Nat.{ℕ, zero, suc, _+_, _-_, _*_, _≤_, _<_}
+use native.Mathlib.Omega.{arith}
+use lib.Dec.{leb, ltb, eqb}
+use lib.ListN.{length, getD}
+use borrow.Author.Tests.{eqb-true, lt-ltb, le-ltb, ltb-true, ltb-false, not-false, ne-eqb}
+use Rattle.words.specs.Lists.{find}
+use Rattle.laws.proofs.Cases.{on, by-lt, by-eq, and-right, same-either}
+use Rattle.laws.proofs.Lists.{find-at}
+use Rattle.meaning.specs.Time.{Time, isPeriodAt, isOpenAt, days, dayNumber, dayOf, isPeriod, isOpen, withGateClosed}
+use Rattle.meaning.specs.Authorisations.{Authorisation, rowAt, isPair}
+use Rattle.meaning.specs.Ledgers.{Sort, index, slotAt, at, places, originatorOf, holds, isHeld, slotOf, Ledger, Side, one, two, side}
+use Rattle.meaning.specs.Messages.{Message, notification, nullification, about, from, leaves, volume, says, reaches, rewritten, heldAfter, written}
+use Rattle.meaning.specs.Books.{openingRules, Book, setupOf}
+use Rattle.meaning.specs.Soundness.{placeRight}
+use Rattle.meaning.specs.Calls.{Call, gate, message, accepted, act}
+use Rattle.meaning.specs.History.{concerns, gives, standing}
+use Rattle.meaning.proofs.Places.{slot-index, day-index, period-index, index-lt, rewritten-at}
+use Rattle.meaning.proofs.Clock.{IsPeriod, is-period-on, reaches-is}
+use Rattle.meaning.proofs.SetupRules.{Opens, opens}
+use Rattle.meaning.proofs.Sound.{Lawful, Sound}
+use Rattle.meaning.proofs.Held.{Room, with-now, with-after, held-is, unheld-is}
+use Rattle.meaning.proofs.Accepted.{CallPasses, call-passes}
+use Rattle.meaning.proofs.Keeps.{length-heldAfter, side-written}
+
+-- ---- the customer's words and the document's
+
+and-assoc : (a b c : Bool) → a && b && c ≡ a && (b && c)
+and-assoc true b c = refl
+and-assoc false b c = refl
+
+module _ {K : Sort} where
+  -- the place that a message concerns is one that it is about, that was open, and from its first day on
+  pub concerns-is : (rows : List Authorisation) (i : ℕ) (σ : Side) (D period : ℕ) (t : Time) (m : Message K)
+      → concerns rows i σ D period t (message m) ≡ about rows m i σ && (isOpen t D period && leb (from m) D)
+  unfolding concerns about from
+  concerns-is rows i σ D period t (notification n) = and-assoc (about rows (notification n) i σ) (isOpen t D period) (leb (n .first) D)
+  concerns-is rows i σ D period t (nullification x) = and-assoc (isPair (rowAt rows (originatorOf i)) (x .account) (x .other)) (isOpen t D period) (leb (x .first) D)
+
+  -- what the document puts at a place is what the customer says that the message gives
+  pub gives-is : (D period : ℕ) (m : Message K) → says (leaves m) D period ≡ gives D period (message m)
+  unfolding says leaves gives
+  gives-is D period (notification n) =
+      by-lt (n .last) D
+      (λ h. rw (lt-ltb (n .last) D h, le-ltb D (suc (n .last)) h))
+      (λ h. rw (le-ltb (n .last) D h, lt-ltb D (suc (n .last)) (omega arith)))
+  gives-is D period (nullification x) = rw (le-ltb D 0 (omega arith))
+
+  -- ---- what stands
+
+  module _ (b : Book K) (i : ℕ) (σ : Side) (D period : ℕ) where
+    pub stands-held : find (suc i) (b .ledger .held) < length (b .ledger .held)
+        → standing b i σ D period ≡ getD (side (b .ledger) σ) (index (days (b .time)) (find (suc i) (b .ledger .held)) (dayOf (b .time) D) period) (K .omitted)
+    unfolding standing at
+    stands-held h = rw (held-is (b .ledger .held) i h)
+
+    pub stands-unheld : length (b .ledger .held) ≤ find (suc i) (b .ledger .held) → standing b i σ D period ≡ K .nothing
+    unfolding standing
+    stands-unheld h = rw (unheld-is (b .ledger .held) i h)
+
+  pub side-length : (b : Book K) → Sound b → (σ : Side) → length (side (b .ledger) σ) ≡ places (length (b .ledger .held)) (days (b .time))
+  side-length b s one = opens (setupOf b) (length (b .ledger .held)) (length (b .ledger .side1)) (length (b .ledger .side2)) (s .setup) .side1
+  side-length b s two = opens (setupOf b) (length (b .ledger .held)) (length (b .ledger .side1)) (length (b .ledger .side2)) (s .setup) .side2
+
+unheld-wrong : (r q : Bool) → r && false && q ≡ true → ⊥
+unheld-wrong true q e = false≢true e
+unheld-wrong false q e = false≢true e
+
+-- where the message's identifier is not held, a slot is unheld
+abbrev Fits : {K : Sort} → List ℕ → Message K → Type 0
+Fits held (notification n) = Room held (n .identifier)
+Fits held (nullification x) = Unit {0}
+
+-- where an identifier is after a message: where it was; or it is new, and its slot was unheld
+after : {K : Sort} (i : ℕ) (m : Message K) (held : List ℕ) → Fits held m
+    → (find (suc i) (heldAfter m held) ≡ find (suc i) held)
+    ⊎ ((length held ≤ find (suc i) held) × (find (suc i) (heldAfter m held) < length held) × (getD held (find (suc i) (heldAfter m held)) 0 ≡ 0))
+unfolding heldAfter
+after i (notification n) held r = with-after (n .identifier) held i r
+after i (nullification x) held r = inl refl
+
+-- a message that concerns an identifier, and does not hold it afterwards, gives nothing
+unheld-gives : {K : Sort} (rows : List Authorisation) (i : ℕ) (σ : Side) (D period : ℕ) (t : Time) (m : Message K) (held : List ℕ) → Fits held m
+    → length held ≤ find (suc i) (heldAfter m held)
+    → cond (concerns rows i σ D period t (message m)) (gives D period (message m)) (K .nothing) ≡ K .nothing
+unfolding heldAfter concerns gives
+unheld-gives rows i σ D period t (notification n) held r h =
+    by-eq i (n .identifier)
+    (λ q. absurd (omega (arith, rw (← q) at (with-now (n .identifier) held r), rw (← q) at h)))
+    (λ q. rw (ne-eqb i (n .identifier) q))
+unheld-gives {K} rows i σ D period t (nullification x) held r h =
+    same-either (concerns {K = K} rows i σ D period t (message (nullification x))) (K .nothing)
+
+module _ {K : Sort} (lawful : Lawful K) where
+  -- nothing stands in a slot that is unheld
+  pub unheld-nothing : (b : Book K) → Sound b → (σ : Side) (j : ℕ) → j < length (side (b .ledger) σ) → getD (b .ledger .held) (slotAt (days (b .time)) j) 0 ≡ 0
+      → getD (side (b .ledger) σ) j (K .omitted) ≡ K .nothing
+  unfolding placeRight
+  unheld-nothing b s σ j h z =
+      let v = getD (side (b .ledger) σ) j (K .omitted) in
+      on (K .same v (K .nothing))
+      (λ e. lawful .same-is v (K .nothing) e)
+      (λ e. absurd (unheld-wrong (K .inRange v) _ (rw (e, z) at (s .place σ j h))))
+
+  module _ (b : Book K) (s : Sound b) (i : ℕ) (σ : Side) (D period : ℕ) (p : isPeriod (b .time) D period ≡ true) where
+    -- what a message makes of the place that a slot has for the day and period, if the slot holds the identifier afterwards
+    place-moves : (m : Message K) (held : List ℕ) (k : ℕ) → k < length (b .ledger .held) → getD held k 0 ≡ suc i
+        → getD (rewritten (b .rows) (b .time) m held σ (side (b .ledger) σ)) (index (days (b .time)) k (dayOf (b .time) D) period) (K .omitted)
+        ≡ cond (concerns (b .rows) i σ D period (b .time) (message m)) (gives D period (message m))
+        (getD (side (b .ledger) σ) (index (days (b .time)) k (dayOf (b .time) D) period) (K .omitted))
+    unfolding isPeriod
+    place-moves m held k hk e =
+        let t = b .time in
+        let d = dayOf t D in
+        let w = is-period-on t D period p in
+        let hd : d < days t = w .1 .day in
+        let h1 : 1 ≤ period = w .1 .low in
+        let h50 : period ≤ 50 = w .1 .most in
+        let eD : dayNumber t d ≡ D = omega (arith, w .0) in
+        let q : isPeriodAt (t .codes) d period ≡ true = and-right (leb (t .first) D) (isPeriodAt (t .codes) d period) p in
+        rewritten-at (b .rows) t m held σ (side (b .ledger) σ) (index (days t) k d period) (rw (side-length b s σ) (index-lt (days t) k hd h1 h50 hk))
+        ∙ rw (slot-index, day-index, period-index, e, reaches-is t m d period q, eD, concerns-is, ← gives-is D period m)
+
+    pub message-moves : (m : Message K) → Fits (b .ledger .held) m
+        → standing (act b (message m)) i σ D period
+        ≡ cond (concerns (b .rows) i σ D period (b .time) (message m)) (gives D period (message m)) (standing b i σ D period)
+    unfolding act written
+    message-moves m r =
+        let t = b .time in
+        let d = dayOf t D in
+        let held = heldAfter m (b .ledger .held) in
+        let k = find (suc i) held in
+        let b′ = act b (message m) in
+        let len = length-heldAfter lawful m (b .ledger .held) in
+        let w = is-period-on t D period p in
+        let hd : d < days t = w .1 .day in
+        let h1 : 1 ≤ period = w .1 .low in
+        let h50 : period ≤ 50 = w .1 .most in
+        let c = concerns (b .rows) i σ D period t (message m) in
+        by-lt k (length held)
+        (λ l.
+        let kl : k < length (b .ledger .held) = omega arith in
+        let j = index (days t) k d period in
+        let old : getD (side (b .ledger) σ) j (K .omitted) ≡ standing b i σ D period =
+        ⊎-elim
+        (λ q. ap (λ (x : ℕ). getD (side (b .ledger) σ) (index (days t) x d period) (K .omitted)) q ∙ sym (stands-held b i σ D period (rw q at kl)))
+        (λ q. unheld-nothing b s σ j (rw (side-length b s σ) (index-lt (days t) k hd h1 h50 kl)) (rw (slot-index (days t) k hd h1 h50) (q .2)) ∙ sym (stands-unheld b i σ D period (q .0)))
+        (after i m (b .ledger .held) r) in
+        stands-held b′ i σ D period l
+        ∙ ap (λ (x : List (K .Val)). getD x j (K .omitted)) (side-written lawful (b .rows) t m (b .ledger) σ)
+        ∙ place-moves m held k kl (find-at (suc i) held l)
+        ∙ ap (λ (v : K .Val). cond c (gives D period (message m)) v) old)
+        (λ l.
+        let u : standing b i σ D period ≡ K .nothing =
+        ⊎-elim (λ q. stands-unheld b i σ D period (omega arith)) (λ q. absurd (omega arith)) (after i m (b .ledger .held) r) in
+        stands-unheld b′ i σ D period l ∙ sym (rw u (unheld-gives (b .rows) i σ D period t m (b .ledger .held) r (omega arith))))
+
+    -- a gate leaves every place as it is
+    gate-moves : standing (act b gate) i σ D period ≡ standing b i σ D period
+    unfolding act withGateClosed standing
+    gate-moves = refl
+
+    fits : (m : Message K) → CallPasses b (message m) → Fits (b .ledger .held) m
+    fits (notification n) c = c .room
+    fits (nullification x) c = tt
+
+    -- THE STEP of the history
+    pub moves : (c : Call K) → accepted b c ≡ true
+        → standing (act b c) i σ D period
+        ≡ cond (concerns (b .rows) i σ D period (b .time) c) (gives D period c) (standing b i σ D period)
+    unfolding concerns
+    moves gate a = gate-moves
+    moves (message m) a = message-moves m (fits m (call-passes b (message m) a))
