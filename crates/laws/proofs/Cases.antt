@@ -54,6 +54,18 @@ pub or-true : (b : Bool) → b || true ≡ true
 or-true true = refl
 or-true false = refl
 
+pub or-false : (b : Bool) → b || false ≡ b
+or-false true = refl
+or-false false = refl
+
+pub and-assoc : (a b c : Bool) → a && b && c ≡ a && (b && c)
+and-assoc true b c = refl
+and-assoc false b c = refl
+
+pub or-assoc : (a b c : Bool) → a || b || c ≡ a || (b || c)
+or-assoc true b c = refl
+or-assoc false b c = refl
+
 -- a choice of the same
 pub same-either : {A : Type 0} (t : Bool) (a : A) → cond t a a ≡ a
 same-either true a = refl

@@ -1,12 +1,12 @@
 -- Calls one after another: what every accepted call keeps, what follows from the events alone, and THE HISTORY, for any state, call and event.
-use mathlib.Core.Bool.{Bool, true, false, cond, _&&_}
+use mathlib.Core.Bool.{Bool, true, false, cond, _&&_, _||_}
 use mathlib.Core.List.{List, [], _∷_, _++_, append-nil}
 use mathlib.Core.Option.{Option, none, some}
 use mathlib.Core.Path.{_≡_, refl, sym, ap, _∙_}
 use lib.Seq.{append-snoc}
-use Rattle.words.specs.Lists.{keep, last}
+use Rattle.words.specs.Lists.{any, keep, last}
 use Rattle.words.specs.Runs.{step, run, trace, given, decided}
-use Rattle.laws.proofs.Cases.{on}
+use Rattle.laws.proofs.Cases.{on, or-false, or-assoc}
 use Rattle.laws.proofs.Lists.{last-snoc, keep-snoc}
 
 -- ---- who decides
@@ -37,6 +37,12 @@ decided-swap noneGiven concerns gives events a b e =
 unfoldable pub foldl : {E Val : Type 0} → (Val → E → Val) → Val → List E → Val
 foldl f v [] = v
 foldl f v (e ∷ es) = foldl f (f v e) es
+
+-- a flag that is raised by the events that pass a test
+pub foldl-any : {E : Type 0} (f : E → Bool) (v : Bool) (es : List E) → foldl (λ (u : Bool) (e : E). u || f e) v es ≡ v || any f es
+unfolding foldl any
+foldl-any f v [] = sym (or-false v)
+foldl-any f v (e ∷ es) = foldl-any f (v || f e) es ∙ or-assoc v (f e) (any f es)
 
 module _ {S C E : Type 0} (accepted : S → C → Bool) (act : S → C → S) (event : S → C → E) where
   -- a refused call changes nothing

@@ -1,16 +1,16 @@
 -- An identifier that is notified is held afterwards: in its own slot, or in the lowest unheld one. Over the identifier, for every sort.
-use mathlib.Core.Bool.{Bool, true, false, cond}
+use mathlib.Core.Bool.{Bool, true, false, cond, _||_}
 use mathlib.Core.List.{List, [], _∷_}
 use mathlib.Core.Logic.{_≢_, _⊎_, inl, inr}
 use mathlib.Core.Path.{_≡_, refl, sym, ap, _∙_, subst}
 use Prim.Native.Nat.{ℕ, zero, suc, _≤_, _<_}
 use native.Mathlib.Omega.{arith}
-use lib.Dec.{ltb}
+use lib.Dec.{ltb, eqb}
 use lib.ListN.{length, getD, set, length-set, List·getD-eq-default}
 use lib.Seq.{set-getD, getD-set-same, getD-set-other}
-use borrow.Author.Tests.{lt-ltb, le-ltb, ltb-true, ltb-false}
+use borrow.Author.Tests.{lt-ltb, le-ltb, ltb-true, ltb-false, eq-eqb, ne-eqb}
 use Rattle.words.specs.Lists.{find}
-use Rattle.laws.proofs.Cases.{by-lt, by-eq}
+use Rattle.laws.proofs.Cases.{by-lt, by-eq, or-true, or-false}
 use Rattle.laws.proofs.Lists.{find-at, find-first, find-set-other, find-set-new}
 use Rattle.meaning.specs.Ledgers.{isHeld, slotFor}
 
@@ -72,6 +72,24 @@ module _ (i : ℕ) (held : List ℕ) where
       by-eq (suc i) (suc x)
       (λ q. inr (rw (← q) (h, rw (with-new h, find-set-new) f, rw (with-new h, find-set-new) z)))
       (λ q. inl (ap (find (suc x)) (with-new h) ∙ find-set-other (suc x) held (find 0 held) (suc i) q (λ w. omega (arith, sym w ∙ z)))))
+
+  -- another identifier stays where it is
+  pub with-other : (x : ℕ) → x ≢ i → Room held i → find (suc x) (with held i) ≡ find (suc x) held
+  with-other x ne r =
+      by-lt (find (suc i) held) (length held)
+      (λ h. ap (find (suc x)) (with-same h))
+      (λ h.
+      ap (find (suc x)) (with-new h)
+      ∙ find-set-other (suc x) held (find 0 held) (suc i) (λ q. ne (omega arith)) (λ w. omega (arith, sym w ∙ find-at 0 held (r h))))
+
+  -- this one is held afterwards, and of the others those that were
+  pub with-holds : Room held i → (x : ℕ) → isHeld (with held i) x ≡ isHeld held x || eqb x i
+  unfolding isHeld
+  with-holds r x =
+      let len = length-set held (slotFor held i) (suc i) in
+      by-eq x i
+      (λ q. rw (q, eq-eqb i i refl, or-true) (lt-ltb (find (suc i) (with held i)) (length (with held i)) (omega (arith, with-now r))))
+      (λ q. rw (ne-eqb x i q, with-other x q r, len, or-false))
 
   -- what a slot's entry is afterwards: the identifier's, or what it was
   pub with-entry : (k : ℕ) → k < length held → (getD (with held i) k 0 ≡ suc i) ⊎ (getD (with held i) k 0 ≡ getD held k 0)

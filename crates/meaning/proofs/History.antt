@@ -40,7 +40,7 @@ module _ {K : Sort} where
   pub same-book : (b : Book K) → SameBook b b
   same-book b = record { first = refl; codes = refl; accounts = refl; rows = refl }
 
-  act-same : (b b′ : Book K) (c : Call K) → SameBook b b′ → SameBook b (act b′ c)
+  pub act-same : (b b′ : Book K) (c : Call K) → SameBook b b′ → SameBook b (act b′ c)
   unfolding act withGateClosed
   act-same b b′ gate s = record { first = s .first; codes = s .codes; accounts = s .accounts; rows = s .rows }
   act-same b b′ (message m) s = record { first = s .first; codes = s .codes; accounts = s .accounts; rows = s .rows }

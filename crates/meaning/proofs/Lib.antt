@@ -1,5 +1,7 @@
 pub mod Opened
+pub mod Stories
 pub mod Table
+pub mod Examples
 pub mod Places
 pub mod Clock
 pub mod SetupRules
@@ -9,3 +11,5 @@ pub mod Accepted
 pub mod Keeps
 pub mod Moves
 pub mod History
+pub mod Corollaries
+pub mod Exactly

@@ -9,7 +9,7 @@ use lib.Dec.{leb, ltb, eqb}
 use lib.ListN.{length, getD}
 use borrow.Author.Tests.{eqb-true, lt-ltb, le-ltb, ltb-true, ltb-false, not-false, ne-eqb}
 use Rattle.words.specs.Lists.{find}
-use Rattle.laws.proofs.Cases.{on, by-lt, by-eq, and-right, same-either}
+use Rattle.laws.proofs.Cases.{on, by-lt, by-eq, and-right, and-assoc, same-either}
 use Rattle.laws.proofs.Lists.{find-at}
 use Rattle.meaning.specs.Time.{Time, isPeriodAt, isOpenAt, days, dayNumber, dayOf, isPeriod, isOpen, withGateClosed}
 use Rattle.meaning.specs.Authorisations.{Authorisation, rowAt, isPair}
@@ -28,10 +28,6 @@ use Rattle.meaning.proofs.Accepted.{CallPasses, call-passes}
 use Rattle.meaning.proofs.Keeps.{length-heldAfter, side-written}
 
 -- ---- the customer's words and the document's
-
-and-assoc : (a b c : Bool) → a && b && c ≡ a && (b && c)
-and-assoc true b c = refl
-and-assoc false b c = refl
 
 module _ {K : Sort} where
   -- the place that a message concerns is one that it is about, that was open, and from its first day on

@@ -1,26 +1,24 @@
 -- Document 01, "Table to prove": P1 to P13, each a test on the definitions, and one claim that all of them pass.
 use mathlib.Core.Path.{_≡_, refl}
-use mathlib.Core.Bool.{Bool, true, false, not, _&&_}
+use mathlib.Core.Bool.{Bool, true, _&&_}
 use mathlib.Core.List.{List, [], _∷_}
-use Prim.Native.Nat.{ℕ, suc, _+_, _*_}
+use Prim.Native.Nat.{ℕ, _+_}
 use lib.IntN.{ℤ, pos, negℤ}
-use lib.ListN.{replicate, length}
+use lib.ListN.{replicate}
 use Rattle.words.specs.Tests.{_=?_, sameℤ}
 use Rattle.words.specs.Below.{everyBelow}
 use Rattle.words.specs.Lists.{every}
 use Rattle.meaning.specs.Time.{evergreen}
-use Rattle.meaning.specs.Ledgers.{contracts, stands, identifierOf}
-use Rattle.meaning.specs.Messages.{notification, nullification}
+use Rattle.meaning.specs.Ledgers.{contracts}
 use Rattle.meaning.specs.Books.{Setup, Book, openedBook}
-use Rattle.meaning.specs.Notifications.{notified}
-use Rattle.meaning.specs.Calls.{Call, gate, message, refusal}
+use Rattle.meaning.specs.Calls.{Call, gate}
 use Rattle.meaning.specs.History.{after}
-use Rattle.meaning.specs.Totals.{total}
-use Rattle.meaning.specs.Bars.{Bar, Blank, OneSide, Agreed, Disagreed, seenBar}
+use Rattle.meaning.specs.Bars.{seenBar}
 use Rattle.meaning.specs.Rows.{row}
 use Rattle.meaning.specs.PackedMessages.{writeMessage}
 use Rattle.meaning.specs.PackedMessages as Packed
 use Rattle.meaning.proofs.Opened as Opened
+use Rattle.meaning.proofs.Stories.{_/₁_, tell, cancel, answers, accepts, initial, has, disagreed, alike, nothingIn}
 
 -- ---- the book of the table, with four slots
 
@@ -39,60 +37,6 @@ tableSetup =
 
 abbrev start : Book contracts
 start = openedBook contracts tableSetup 4
-
--- ---- calls, as the table writes them
-
-infix 90 _/₁_
-abbrev _/₁_ : ℕ → ℕ → ℕ
-o /₁ r = identifierOf o r
-
--- under an authorisation, with its key, by an agent: an identifier, its first and last day, and one period with its volume
-abbrev tell : ℕ → ℕ → ℕ → ℕ → ℕ → ℕ → ℤ → Call contracts
-tell number agent i first last period volume =
-    message (notification (record {
-      authorisation = number;
-      agent = agent;
-      key = 500 + 100 * number;
-      identifier = i;
-      first = first;
-      last = last;
-      entries = record { period = period; volume = volume } ∷ [];
-    }))
-
-abbrev cancel : ℕ → ℕ → ℕ → Call contracts
-cancel x y first = message (nullification (record { account = x; other = y; first = first }))
-
--- ---- what the table says of a call, and of a book
-
-abbrev answers : Book contracts → Call contracts → ℕ → Bool
-answers b c number = refusal b c =? number
-
-abbrev accepts : Book contracts → Call contracts → Bool
-accepts b c = answers b c 0
-
-abbrev initial : Book contracts → Call contracts → Bool
-initial b gate = false
-initial b (message (notification n)) = notified b n .kind =? 1
-initial b (message (nullification x)) = false
-
--- the total of an account in a period of a day
-abbrev has : Book contracts → ℕ → ℕ → ℕ → ℤ → Bool
-has b account D period v = sameℤ (total b account D period) v
-
-abbrev disagreed : Bar ℤ → ℤ → ℤ → Bool
-disagreed Blank v w = false
-disagreed (OneSide x) v w = false
-disagreed (Agreed x) v w = false
-disagreed (Disagreed x y) v w = sameℤ x v && sameℤ y w
-
-abbrev alike {ℓ} : {A : Type ℓ} → (A → A → Bool) → List A → List A → Bool
-alike f [] [] = true
-alike f [] (y ∷ ys) = false
-alike f (x ∷ xs) [] = false
-alike f (x ∷ xs) (y ∷ ys) = f x y && alike f xs ys
-
-abbrev nothingIn : List ℤ → Bool
-nothingIn vs = every (λ v. not (stands contracts v)) vs
 
 -- ---- the stories
 

@@ -1,0 +1,163 @@
+-- What follows from the history and beside it: a refused call changes nothing, a closed place never changes, every stored volume of every slot
+-- follows from the history, and so do the identifiers that are held and their slots.
+use mathlib.Core.Bool.{Bool, true, false, _&&_, _||_}
+use mathlib.Core.List.{List, [], _∷_}
+use mathlib.Core.Logic.{_≢_, _⊎_, inl, inr, ⊎-elim}
+use mathlib.Core.Path.{_≡_, refl, sym, ap, _∙_, subst}
+use Prim.Native.Nat.{ℕ, zero, suc, _+_, _≤_, _<_}
+use native.Mathlib.Omega.{arith}
+use lib.Dec.{leb, ltb, eqb}
+use lib.ListN.{length, getD, replicate, length-replicate}
+use borrow.Author.Tests.{ne-eqb, ltb-false, le-ltb}
+use Rattle.words.specs.Lists.{any, find}
+use Rattle.words.specs.Rules.{answer}
+use Rattle.words.specs.Runs.{step, run}
+use Rattle.laws.proofs.Cases.{and-false, or-false}
+use Rattle.laws.proofs.Lists.{find-replicate}
+use Rattle.laws.proofs.Runs.{foldl, foldl-any, run-keeps, run-folds, refused-nothing}
+use Rattle.meaning.specs.Time.{Time, isOpenAt, gatesBefore, days, dayOf, isPeriod, isOpen, withGateClosed}
+use Rattle.meaning.specs.Authorisations.{Authorisation}
+use Rattle.meaning.specs.Ledgers.{Sort, index, at, places, isHeld, Side, side, emptyLedger}
+use Rattle.meaning.specs.Messages.{Message, notification, nullification, about, from, heldAfter, written}
+use Rattle.meaning.specs.Books.{Setup, openingRules, Book, openedBook}
+use Rattle.meaning.specs.Calls.{Call, gate, message, refusal, accepted, act}
+use Rattle.meaning.specs.History.{Event, event, concerns, decides, standing, after, eventsOf}
+use Rattle.meaning.proofs.Places.{slot-index, index-lt}
+use Rattle.meaning.proofs.Clock.{is-period-on}
+use Rattle.meaning.proofs.Sound.{Lawful, Sound, parts}
+use Rattle.meaning.proofs.Held.{with-holds, unheld-is}
+use Rattle.meaning.proofs.Accepted.{call-passes}
+use Rattle.meaning.proofs.Keeps.{keeps}
+use Rattle.meaning.proofs.Moves.{concerns-is, moves, stands-held, side-length, unheld-nothing}
+use Rattle.meaning.proofs.History.{SameBook, same-book, act-same, same-period, after-same, after-running, history}
+
+-- ---- a refused call
+
+module _ {K : Sort} where
+  -- one call: its answer decides whether anything happens
+  abbrev pub call : Book K → Call K → Book K
+  call b c = step accepted act event b c
+
+  pub refused-changes-nothing : (b : Book K) (c : Call K) → refusal b c ≢ 0 → call b c ≡ b
+  unfolding accepted
+  refused-changes-nothing b c n = refused-nothing accepted act event b c (ne-eqb (refusal b c) 0 n)
+
+  -- ---- closed places
+
+  closed-concerns : (rows : List Authorisation) (i : ℕ) (σ : Side) (D period : ℕ) (t : Time) (c : Call K)
+      → isOpen t D period ≡ false → concerns rows i σ D period t c ≡ false
+  unfolding concerns
+  closed-concerns rows i σ D period t gate e = refl
+  closed-concerns rows i σ D period t (message m) e = concerns-is rows i σ D period t m ∙ rw e (and-false (about rows m i σ))
+
+  closed-stays : (b : Book K) (D period : ℕ) (c : Call K) → isOpen (b .time) D period ≡ false → isOpen (act b c .time) D period ≡ false
+  unfolding act withGateClosed isOpenAt
+  closed-stays b D period gate e =
+      le-ltb (suc (b .time .closed)) (gatesBefore (b .time .codes) (dayOf (b .time) D) + period) (omega (arith, ltb-false (b .time .closed) _ e))
+  closed-stays b D period (message m) e = e
+
+-- a place whose gate is closed never changes again, whatever calls follow
+module _ {K : Sort} (lawful : Lawful K) (i : ℕ) (σ : Side) (D period : ℕ) where
+  pub record ClosedAs (b b′ : Book K) : Type 0 where
+    pub sound : Sound b′
+    pub same : SameBook b b′
+    pub closed : isOpen (b′ .time) D period ≡ false
+    pub stands : standing b′ i σ D period ≡ standing b i σ D period
+
+  pub closed-never-changes : (b : Book K) → Sound b → isPeriod (b .time) D period ≡ true → isOpen (b .time) D period ≡ false
+      → (calls : List (Call K)) → standing (after b calls) i σ D period ≡ standing b i σ D period
+  unfolding after
+  closed-never-changes b s p e calls =
+      (run-keeps accepted act event (ClosedAs b)
+      (λ b′ c a g.
+      record {
+        sound = keeps lawful b′ c a (g .sound);
+        same = act-same b b′ c (g .same);
+        closed = closed-stays b′ D period c (g .closed);
+        stands =
+            moves lawful b′ (g .sound) i σ D period (same-period (g .same) D period p) c a
+            ∙ rw (closed-concerns (b′ .rows) i σ D period (b′ .time) c (g .closed)) (g .stands);
+      })
+      calls b (record { sound = s; same = same-book b; closed = e; stands = refl })) .stands
+
+-- ---- every stored volume
+
+module _ {K : Sort} (lawful : Lawful K) (setup : Setup) (slots lent1 lent2 : ℕ) (opening : answer (openingRules setup slots lent1 lent2) ≡ 0)
+    (calls : List (Call K)) (k : ℕ) (σ : Side) (D period : ℕ) (hk : k < length (after (openedBook K setup slots) calls .ledger .held))
+    (p : isPeriod (openedBook K setup slots .time) D period ≡ true) where
+  -- the volume that is stored for a slot's day and period
+  abbrev pub stored : K .Val
+  stored =
+      let b = after (openedBook K setup slots) calls in
+      at K (days (b .time)) (side (b .ledger) σ) k (dayOf (b .time) D) period
+
+  -- a slot that holds an identifier stores what the history says of it
+  pub stored-held : (i : ℕ) → getD (after (openedBook K setup slots) calls .ledger .held) k 0 ≡ suc i
+      → stored ≡ decides (setup .rows) (eventsOf (openedBook K setup slots) calls) i σ D period
+  unfolding at
+  stored-held i e =
+      let b = after (openedBook K setup slots) calls in
+      let s = after-running lawful setup slots lent1 lent2 opening calls .0 in
+      let own = s .slots k i hk e .own in
+      let here : find (suc i) (b .ledger .held) < length (b .ledger .held) = rw own hk in
+      sym (stands-held b i σ D period here ∙ ap (λ (x : ℕ). getD (side (b .ledger) σ) (index (days (b .time)) x (dayOf (b .time) D) period) (K .omitted)) own)
+      ∙ history lawful setup slots lent1 lent2 opening calls i σ D period p
+
+  -- an unheld slot stores nothing
+  pub stored-unheld : getD (after (openedBook K setup slots) calls .ledger .held) k 0 ≡ 0 → stored ≡ K .nothing
+  unfolding at
+  stored-unheld z =
+      let b = after (openedBook K setup slots) calls in
+      let r = after-running lawful setup slots lent1 lent2 opening calls in
+      let w = is-period-on (b .time) D period (same-period (r .1) D period p) .1 in
+      let hd : dayOf (b .time) D < days (b .time) = w .day in
+      let h1 : 1 ≤ period = w .low in
+      let h50 : period ≤ 50 = w .most in
+      let j = index (days (b .time)) k (dayOf (b .time) D) period in
+      unheld-nothing lawful b (r .0) σ j (rw (side-length b (r .0) σ) (index-lt (days (b .time)) k hd h1 h50 hk))
+      (rw (slot-index (days (b .time)) k hd h1 h50) z)
+
+-- ---- the identifiers that are held, and their slots
+
+opened-unheld : (K : Sort) (s : Setup) (slots i : ℕ) → isHeld (openedBook K s slots .ledger .held) i ≡ false
+unfolding openedBook emptyLedger
+opened-unheld K s slots i =
+    unheld-is (replicate slots 0) i (omega (arith, length-replicate {A = ℕ} slots 0, find-replicate (suc i) slots 0 (λ e. omega arith)))
+
+module _ {K : Sort} where
+  -- each accepted notification's identifier keeps its slot, or takes the lowest unheld one
+  abbrev pub heldAfterCall : Call K → List ℕ → List ℕ
+  heldAfterCall gate held = held
+  heldAfterCall (message m) held = heldAfter m held
+
+  act-held : (b : Book K) (c : Call K) → act b c .ledger .held ≡ heldAfterCall c (b .ledger .held)
+  unfolding act written
+  act-held b gate = refl
+  act-held b (message m) = refl
+
+  pub held-follow : (b : Book K) (calls : List (Call K))
+      → after b calls .ledger .held ≡ foldl (λ (held : List ℕ) (e : Event K). heldAfterCall (e .call) held) (b .ledger .held) (eventsOf b calls)
+  unfolding after eventsOf
+  held-follow b calls =
+      run-folds accepted act event (λ (x : Book K). x .ledger .held) (λ (held : List ℕ) (e : Event K). heldAfterCall (e .call) held) (λ x c a. act-held x c) calls b
+
+  -- the call notifies the identifier
+  abbrev pub notifies : ℕ → Call K → Bool
+  notifies i gate = false
+  notifies i (message (notification n)) = eqb i (n .identifier)
+  notifies i (message (nullification x)) = false
+
+  act-holds : (b : Book K) (c : Call K) (i : ℕ) → accepted b c ≡ true → isHeld (act b c .ledger .held) i ≡ isHeld (b .ledger .held) i || notifies i c
+  unfolding act written heldAfter
+  act-holds b gate i a = sym (or-false (isHeld (b .ledger .held) i))
+  act-holds b (message (notification n)) i a = with-holds (n .identifier) (b .ledger .held) (call-passes b (message (notification n)) a .room) i
+  act-holds b (message (nullification x)) i a = sym (or-false (isHeld (b .ledger .held) i))
+
+  -- an identifier is held exactly when a notification of it was accepted: no slot is freed
+  pub held-when-accepted : (setup : Setup) (slots : ℕ) (calls : List (Call K)) (i : ℕ)
+      → isHeld (after (openedBook K setup slots) calls .ledger .held) i ≡ any (λ (e : Event K). notifies i (e .call)) (eventsOf (openedBook K setup slots) calls)
+  unfolding after eventsOf
+  held-when-accepted setup slots calls i =
+      run-folds accepted act event (λ (x : Book K). isHeld (x .ledger .held) i) (λ (u : Bool) (e : Event K). u || notifies i (e .call)) (λ x c a. act-holds x c i a) calls (openedBook K setup slots)
+      ∙ foldl-any (λ (e : Event K). notifies i (e .call)) (isHeld (openedBook K setup slots .ledger .held) i) (eventsOf (openedBook K setup slots) calls)
+      ∙ rw (opened-unheld K setup slots i)
