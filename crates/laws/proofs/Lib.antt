@@ -4,3 +4,7 @@ pub mod Rules
 pub mod Below
 pub mod Lists
 pub mod Runs
+pub mod Whole
+pub mod Parts
+pub mod Sums
+pub mod Machine

@@ -13,3 +13,9 @@ pub mod Moves
 pub mod History
 pub mod Corollaries
 pub mod Exactly
+pub mod Contracts
+pub mod Standing
+pub mod Counted
+pub mod Totals
+pub mod Figures
+pub mod Bars

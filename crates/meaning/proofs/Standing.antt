@@ -1,0 +1,76 @@
+-- What stands in a sound book: it is in range, its slot is held, and a held identifier has a right row.
+use mathlib.Core.Bool.{true, _&&_}
+use mathlib.Core.Path.{_≡_, refl}
+use Prim.Native.Nat.{ℕ, zero, suc, _≤_, _<_}
+use native.Mathlib.Omega.{arith}
+use lib.Dec.{ltb}
+use lib.ListN.{length, getD, List·getD-eq-default}
+use borrow.Author.Tests.{ltb-true}
+use Rattle.words.specs.Lists.{find}
+use Rattle.laws.proofs.Cases.{by-lt, and-left, and-right}
+use Rattle.laws.proofs.Lists.{find-at}
+use Rattle.meaning.specs.Time.{days, isPeriodAt}
+use Rattle.meaning.specs.Authorisations.{rowAt}
+use Rattle.meaning.specs.Ledgers.{Sort, stands, index, slotAt, dayAt, periodAt, at, places, originatorOf, isHeld, originIn, Side, one, two, side}
+use Rattle.meaning.specs.Books.{Book, setupOf}
+use Rattle.meaning.specs.Soundness.{placeRight}
+use Rattle.meaning.proofs.Places.{slot-index, index-lt}
+use Rattle.meaning.proofs.SetupRules.{RowRight, Opens, opens}
+use Rattle.meaning.proofs.Sound.{Lawful, Sound}
+
+module _ {K : Sort} (b : Book K) (s : Sound b) where
+  pub sound-opens : Opens (setupOf b) (length (b .ledger .held)) (length (b .ledger .side1)) (length (b .ledger .side2))
+  sound-opens = opens (setupOf b) (length (b .ledger .held)) (length (b .ledger .side1)) (length (b .ledger .side2)) (s .setup)
+
+  pub length-side : (σ : Side) → length (side (b .ledger) σ) ≡ places (length (b .ledger .held)) (days (b .time))
+  length-side one = sound-opens .side1
+  length-side two = sound-opens .side2
+
+  -- the row of the identifier that a slot holds
+  pub row-held : (slot : ℕ) → slot < length (b .ledger .held) → 0 < getD (b .ledger .held) slot 0
+      → RowRight (b .accounts) (originIn (b .rows) (getD (b .ledger .held) slot 0))
+  row-held slot l h = of (getD (b .ledger .held) slot 0) refl h
+    where
+      of : (e : ℕ) → getD (b .ledger .held) slot 0 ≡ e → 0 < e → RowRight (b .accounts) (originIn (b .rows) e)
+      of zero q h = absurd (omega arith)
+      of (suc i) q h = sound-opens .rows (originatorOf i) (s .slots slot i l q .originator)
+
+  -- and of an identifier that is held
+  pub row-of : (i : ℕ) → isHeld (b .ledger .held) i ≡ true → RowRight (b .accounts) (rowAt (b .rows) (originatorOf i))
+  unfolding isHeld
+  row-of i h =
+      let held = b .ledger .held in
+      let l = ltb-true (find (suc i) held) (length held) h in
+      sound-opens .rows (originatorOf i) (s .slots (find (suc i) held) i l (find-at (suc i) held l) .originator)
+
+  module _ (σ : Side) where
+    -- what stands at place j
+    stands-place : (j : ℕ) → j < length (side (b .ledger) σ) → stands K (getD (side (b .ledger) σ) j (K .omitted)) ≡ true
+        → (K .inRange (getD (side (b .ledger) σ) j (K .omitted)) ≡ true) × (0 < getD (b .ledger .held) (slotAt (days (b .time)) j) 0)
+    unfolding placeRight
+    stands-place j l e =
+        let v = getD (side (b .ledger) σ) j (K .omitted) in
+        let h = getD (b .ledger .held) (slotAt (days (b .time)) j) 0 in
+        let p = isPeriodAt (b .time .codes) (dayAt (days (b .time)) j) (periodAt j) in
+        let all : K .inRange v && ltb 0 h && p ≡ true = rw e at (s .place σ j l) in
+        let first = and-left (K .inRange v && ltb 0 h) p all in
+        (and-left (K .inRange v) (ltb 0 h) first, ltb-true 0 h (and-right (K .inRange v) (ltb 0 h) first))
+
+    -- it is in range, also past the table's end, where it is what an omitted period gets
+    pub stands-in-range : Lawful K → (slot d period : ℕ) → stands K (at K (days (b .time)) (side (b .ledger) σ) slot d period) ≡ true
+        → K .inRange (at K (days (b .time)) (side (b .ledger) σ) slot d period) ≡ true
+    unfolding at
+    stands-in-range law slot d period e =
+        let j = index (days (b .time)) slot d period in
+        by-lt j (length (side (b .ledger) σ))
+        (λ l. stands-place j l e .0)
+        (λ l. rw (List·getD-eq-default (side (b .ledger) σ) (K .omitted) l) (law .omitted-right))
+
+    -- its slot is held
+    pub stands-held : (slot d period : ℕ) → slot < length (b .ledger .held) → d < days (b .time) → 1 ≤ period → period ≤ 50
+        → stands K (at K (days (b .time)) (side (b .ledger) σ) slot d period) ≡ true → 0 < getD (b .ledger .held) slot 0
+    unfolding at
+    stands-held slot d period l hd h1 h50 e =
+        let n = days (b .time) in
+        let inside = index-lt n slot hd h1 h50 l in
+        rw (slot-index n slot hd h1 h50) at (stands-place (index n slot d period) (rw (length-side σ) inside) e .1)
