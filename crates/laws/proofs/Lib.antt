@@ -8,3 +8,11 @@ pub mod Whole
 pub mod Parts
 pub mod Sums
 pub mod Machine
+pub mod Bits
+pub mod Fields
+pub mod WideFields
+pub mod SameBits
+pub mod Signed
+pub mod Layouts
+pub mod FieldLoops
+pub mod Padded

@@ -25,10 +25,11 @@ use Rattle.meaning.specs.History.{Event, event, concerns, decides, stand
 use Rattle.meaning.proofs.Places.{slot-index, index-lt}
 use Rattle.meaning.proofs.Clock.{is-period-on}
 use Rattle.meaning.proofs.Sound.{Lawful, Sound, parts}
+use Rattle.meaning.proofs.Standing.{length-side}
 use Rattle.meaning.proofs.Held.{with-holds, unheld-is}
 use Rattle.meaning.proofs.Accepted.{call-passes}
 use Rattle.meaning.proofs.Keeps.{keeps}
-use Rattle.meaning.proofs.Moves.{concerns-is, moves, stands-held, side-length, unheld-nothing}
+use Rattle.meaning.proofs.Moves.{concerns-is, moves, stands-held, unheld-nothing}
 use Rattle.meaning.proofs.History.{SameBook, same-book, act-same, same-period, after-same, after-running, history}
 
 -- ---- a refused call
@@ -114,7 +115,7 @@ module _ {K : Sort} (lawful : Lawful K) (setup : Setup) (slots lent1 lent2 : ℕ
       let h1 : 1 ≤ period = w .low in
       let h50 : period ≤ 50 = w .most in
       let j = index (days (b .time)) k (dayOf (b .time) D) period in
-      unheld-nothing lawful b (r .0) σ j (rw (side-length b (r .0) σ) (index-lt (days (b .time)) k hd h1 h50 hk))
+      unheld-nothing lawful b (r .0) σ j (rw (length-side b (r .0) σ) (index-lt (days (b .time)) k hd h1 h50 hk))
       (rw (slot-index (days (b .time)) k hd h1 h50) z)
 
 -- ---- the identifiers that are held, and their slots

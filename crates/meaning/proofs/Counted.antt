@@ -22,7 +22,7 @@ use Rattle.meaning.specs.Totals.{matches, seenBy, counted}
 use Rattle.meaning.proofs.Contracts.{contracts-lawful}
 use Rattle.meaning.proofs.SetupRules.{RowRight}
 use Rattle.meaning.proofs.Sound.{Sound}
-use Rattle.meaning.proofs.Standing.{row-held, stands-in-range, stands-held}
+use Rattle.meaning.proofs.Standing.{row-held, stands-in-range, standing-slot-held}
 
 -- ---- two sides match: both stand, and they are equal
 
@@ -116,7 +116,7 @@ module _ (b : Book contracts) (d period slot : ℕ) where
     counted-zero l hd h1 h50 =
         on (matches volume1 volume2)
         (λ e.
-        let held = stands-held b s one slot d period l hd h1 h50 (matches-first volume1 volume2 e) in
+        let held = standing-slot-held b s one slot d period l hd h1 h50 (matches-first volume1 volume2 e) in
         sum-ext (b .accounts) (λ account. counted b account d period slot) (λ account. seenBy origin account volume1) (λ account h. counted-matched e account)
         ∙ seen-zero origin volume1 (b .accounts) (row-held b s slot l held))
         (λ e. sum-zero (b .accounts) (λ account. counted b account d period slot) (λ account h. counted-unmatched e account))

@@ -4,7 +4,7 @@ use mathlib.Core.Bool.{Bool, true, _&&_}
 use mathlib.Core.List.{List, [], _∷_}
 use Prim.Native.Nat.{ℕ, suc}
 use lib.IntN.{ℤ, pos, negℤ}
-use Rattle.words.specs.Tests.{_=?_}
+use Rattle.words.specs.Tests.{_=?_, sameℤ}
 use Rattle.words.specs.Below.{everyBelow}
 use Rattle.meaning.specs.Time.{evergreen}
 use Rattle.meaning.specs.Ledgers.{contracts}
@@ -12,6 +12,7 @@ use Rattle.meaning.specs.Messages.{Entry, notification}
 use Rattle.meaning.specs.Books.{Book, openedBook}
 use Rattle.meaning.specs.Calls.{Call, gate, message, refusal}
 use Rattle.meaning.specs.History.{after}
+use Rattle.meaning.specs.Totals.{sumOf}
 use Rattle.meaning.specs.Bars.{seenBar}
 use Rattle.meaning.proofs.Opened as Opened
 use Rattle.meaning.proofs.Stories.{_/₁_, has, oneSided, alike}
@@ -55,12 +56,13 @@ pub theAnswers : alike _=?_ (answersTo sheet five) (0 ∷ 0 ∷ 4 ∷ 0 ∷ 0 �
 unfolding Opened.opened
 theAnswers = refl
 
--- "t 0 100 1 5000, t 1 100 1 -5000", and every other total is zero
+-- "t 0 100 1 5000, t 1 100 1 -5000", and every other period sums to zero
 abbrev totalsRight : Bool
 totalsRight =
     has (after sheet five) 0 100 1 (pos 5000)
     && has (after sheet five) 1 100 1 (negℤ (pos 5000))
-    && everyBelow 47 (λ p. has (after sheet five) 0 100 (suc (suc p)) (pos 0) && has (after sheet five) 1 100 (suc (suc p)) (pos 0))
+    && has (after sheet five) 0 100 2 (pos 0)
+    && everyBelow 47 (λ p. sameℤ (sumOf (after sheet five) 0 0 (suc (suc p))) (pos 0) && sameℤ (sumOf (after sheet five) 1 0 (suc (suc p))) (pos 0))
 
 pub theTotals : totalsRight ≡ true
 unfolding Opened.opened

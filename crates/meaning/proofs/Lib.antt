@@ -1,3 +1,4 @@
+-- The theorems about the definitions: worked examples, soundness kept, the history, totals and bars, and packing either way round.
 pub mod Opened
 pub mod Stories
 pub mod Table
@@ -6,6 +7,7 @@ pub mod Places
 pub mod Clock
 pub mod SetupRules
 pub mod Sound
+pub mod Standing
 pub mod Held
 pub mod Accepted
 pub mod Keeps
@@ -14,8 +16,16 @@ pub mod History
 pub mod Corollaries
 pub mod Exactly
 pub mod Contracts
-pub mod Standing
 pub mod Counted
 pub mod Totals
 pub mod Figures
 pub mod Bars
+pub mod PackedInto
+pub mod EntryValues
+pub mod MessageValues
+pub mod PackedMessageRules
+pub mod EitherWayMessages
+pub mod SetupValues
+pub mod PackedSetupRules
+pub mod EitherWaySetups
+pub mod Sizes

@@ -15,14 +15,14 @@ use Rattle.meaning.specs.Time.{Time, isPeriodAt, isOpenAt, days, dayNumb
 use Rattle.meaning.specs.Authorisations.{Authorisation, rowAt, isPair}
 use Rattle.meaning.specs.Ledgers.{Sort, index, slotAt, at, places, originatorOf, holds, isHeld, slotOf, Ledger, Side, one, two, side}
 use Rattle.meaning.specs.Messages.{Message, notification, nullification, about, from, leaves, volume, says, reaches, rewritten, heldAfter, written}
-use Rattle.meaning.specs.Books.{openingRules, Book, setupOf}
+use Rattle.meaning.specs.Books.{Book}
 use Rattle.meaning.specs.Soundness.{placeRight}
 use Rattle.meaning.specs.Calls.{Call, gate, message, accepted, act}
 use Rattle.meaning.specs.History.{concerns, gives, standing}
 use Rattle.meaning.proofs.Places.{slot-index, day-index, period-index, index-lt, rewritten-at}
 use Rattle.meaning.proofs.Clock.{IsPeriod, is-period-on, reaches-is}
-use Rattle.meaning.proofs.SetupRules.{Opens, opens}
 use Rattle.meaning.proofs.Sound.{Lawful, Sound}
+use Rattle.meaning.proofs.Standing.{length-side}
 use Rattle.meaning.proofs.Held.{Room, with-now, with-after, held-is, unheld-is}
 use Rattle.meaning.proofs.Accepted.{CallPasses, call-passes}
 use Rattle.meaning.proofs.Keeps.{length-heldAfter, side-written}
@@ -57,10 +57,6 @@ module _ {K : Sort} where
     pub stands-unheld : length (b .ledger .held) ≤ find (suc i) (b .ledger .held) → standing b i σ D period ≡ K .nothing
     unfolding standing
     stands-unheld h = rw (unheld-is (b .ledger .held) i h)
-
-  pub side-length : (b : Book K) → Sound b → (σ : Side) → length (side (b .ledger) σ) ≡ places (length (b .ledger .held)) (days (b .time))
-  side-length b s one = opens (setupOf b) (length (b .ledger .held)) (length (b .ledger .side1)) (length (b .ledger .side2)) (s .setup) .side1
-  side-length b s two = opens (setupOf b) (length (b .ledger .held)) (length (b .ledger .side1)) (length (b .ledger .side2)) (s .setup) .side2
 
 unheld-wrong : (r q : Bool) → r && false && q ≡ true → ⊥
 unheld-wrong true q e = false≢true e
@@ -118,7 +114,7 @@ module _ {K : Sort} (lawful : Lawful K) where
         let h50 : period ≤ 50 = w .1 .most in
         let eD : dayNumber t d ≡ D = omega (arith, w .0) in
         let q : isPeriodAt (t .codes) d period ≡ true = and-right (leb (t .first) D) (isPeriodAt (t .codes) d period) p in
-        rewritten-at (b .rows) t m held σ (side (b .ledger) σ) (index (days t) k d period) (rw (side-length b s σ) (index-lt (days t) k hd h1 h50 hk))
+        rewritten-at (b .rows) t m held σ (side (b .ledger) σ) (index (days t) k d period) (rw (length-side b s σ) (index-lt (days t) k hd h1 h50 hk))
         ∙ rw (slot-index, day-index, period-index, e, reaches-is t m d period q, eD, concerns-is, ← gives-is D period m)
 
     pub message-moves : (m : Message K) → Fits (b .ledger .held) m
@@ -144,7 +140,7 @@ module _ {K : Sort} (lawful : Lawful K) where
         let old : getD (side (b .ledger) σ) j (K .omitted) ≡ standing b i σ D period =
         ⊎-elim
         (λ q. ap (λ (x : ℕ). getD (side (b .ledger) σ) (index (days t) x d period) (K .omitted)) q ∙ sym (stands-held b i σ D period (rw q at kl)))
-        (λ q. unheld-nothing b s σ j (rw (side-length b s σ) (index-lt (days t) k hd h1 h50 kl)) (rw (slot-index (days t) k hd h1 h50) (q .2)) ∙ sym (stands-unheld b i σ D period (q .0)))
+        (λ q. unheld-nothing b s σ j (rw (length-side b s σ) (index-lt (days t) k hd h1 h50 kl)) (rw (slot-index (days t) k hd h1 h50) (q .2)) ∙ sym (stands-unheld b i σ D period (q .0)))
         (after i m (b .ledger .held) r) in
         stands-held b′ i σ D period l
         ∙ ap (λ (x : List (K .Val)). getD x j (K .omitted)) (side-written lawful (b .rows) t m (b .ledger) σ)

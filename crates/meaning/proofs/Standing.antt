@@ -67,10 +67,10 @@ module _ {K : Sort} (b : Book K) (s : Sound b) where
         (λ l. rw (List·getD-eq-default (side (b .ledger) σ) (K .omitted) l) (law .omitted-right))
 
     -- its slot is held
-    pub stands-held : (slot d period : ℕ) → slot < length (b .ledger .held) → d < days (b .time) → 1 ≤ period → period ≤ 50
+    pub standing-slot-held : (slot d period : ℕ) → slot < length (b .ledger .held) → d < days (b .time) → 1 ≤ period → period ≤ 50
         → stands K (at K (days (b .time)) (side (b .ledger) σ) slot d period) ≡ true → 0 < getD (b .ledger .held) slot 0
     unfolding at
-    stands-held slot d period l hd h1 h50 e =
+    standing-slot-held slot d period l hd h1 h50 e =
         let n = days (b .time) in
         let inside = index-lt n slot hd h1 h50 l in
         rw (slot-index n slot hd h1 h50) at (stands-place (index n slot d period) (rw (length-side σ) inside) e .1)
