@@ -1,12 +1,11 @@
 -- Tests, searches and sums below a bound: what a loop meets at its next turn, and what they say of each number.
-use mathlib.Core.Bool.{Bool, true, false, cond, not, _&&_, _||_}
-use mathlib.Core.Logic.{_≢_}
+use mathlib.Core.Bool.{Bool, true, false, _||_}
 use mathlib.Core.Path.{_≡_, refl, sym, ap, ap₂, _∙_}
 use Prim.Native.Nat.{ℕ, zero, suc, _+_, _≤_, _<_}
 use native.Mathlib.Nat.{not-suc-le-zero}
 use native.Mathlib.Numerals.{add-one}
 use native.Mathlib.Omega.{arith}
-use Rattle.words.specs.Below.{someBelow, everyBelow, firstBelow, sumBelow}
+use Rattle.words.specs.Below.{someBelow, firstBelow, sumBelow}
 use Rattle.laws.proofs.Cases.{on, by-eq, or-true}
 
 -- ---- some, and every

@@ -1,8 +1,8 @@
 -- Lists by their places: a list rewritten or tested at each place, the first place of a number, the elements kept, the last.
-use mathlib.Core.Bool.{Bool, true, false, cond, not, _&&_}
+use mathlib.Core.Bool.{Bool, true, false, cond}
 use mathlib.Core.List.{List, [], _∷_, _++_}
 use mathlib.Core.Logic.{_≢_}
-use mathlib.Core.Option.{Option, none, some}
+use mathlib.Core.Option.{some}
 use mathlib.Core.Path.{_≡_, refl, sym, ap, _∙_}
 use Prim.Native.Nat.{ℕ, zero, suc, _+_, _≤_, _<_}
 use native.Mathlib.Nat.{le-of-suc-le-suc, not-suc-le-zero, add-zero, zero-add, add-suc, suc-add}
@@ -11,7 +11,7 @@ use lib.Dec.{ltb, eqb}
 use lib.ListN.{length, getD, set, length-set, replicate, length-replicate, getD-replicate, List·getD-eq-default}
 use lib.Seq.{ext-getD, getD-set-same, getD-set-other}
 use borrow.Author.Tests.{lt-ltb, le-ltb, eqb-true, eq-eqb, ne-eqb}
-use Rattle.words.specs.Lists.{any, every, everyFrom, mapFrom, everyAt, mapAt, keep, last, find}
+use Rattle.words.specs.Lists.{any, everyFrom, mapFrom, everyAt, mapAt, keep, last, find}
 use Rattle.laws.proofs.Cases.{on, by-lt, by-eq, and-left, and-right, or-left, or-right}
 
 module _ {A : Type 0} where

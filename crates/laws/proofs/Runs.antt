@@ -1,11 +1,10 @@
 -- Calls one after another: what every accepted call keeps, what follows from the events alone, and THE HISTORY, for any state, call and event.
 use mathlib.Core.Bool.{Bool, true, false, cond, _&&_, _||_}
 use mathlib.Core.List.{List, [], _∷_, _++_, append-nil}
-use mathlib.Core.Option.{Option, none, some}
-use mathlib.Core.Path.{_≡_, refl, sym, ap, _∙_}
+use mathlib.Core.Path.{_≡_, refl, sym, _∙_}
 use lib.Seq.{append-snoc}
 use Rattle.words.specs.Lists.{any, keep, last}
-use Rattle.words.specs.Runs.{step, run, trace, given, decided}
+use Rattle.words.specs.Runs.{step, run, trace, decided}
 use Rattle.laws.proofs.Cases.{on, or-false, or-assoc}
 use Rattle.laws.proofs.Lists.{last-snoc, keep-snoc}
 

@@ -1,25 +1,22 @@
 -- What an accepted call has shown: the conditions of the refusals that did not come.
-use mathlib.Core.Bool.{Bool, true, false, not, _&&_, _||_}
-use mathlib.Core.List.{List, []}
-use mathlib.Core.Path.{_≡_, refl, sym, ap, _∙_}
-use Prim.Native.Nat.{ℕ, zero, suc, _≤_, _<_}
-use lib.Dec.{leb, ltb, eqb}
-use lib.ListN.{length, getD}
-use borrow.Author.Tests.{eqb-true, leb-true, leb-false, ltb-true, not-false}
-use Rattle.words.specs.Tests.{_≤?_}
+use mathlib.Core.Bool.{true, false, not, _&&_}
+use mathlib.Core.Path.{_≡_, refl}
+use Prim.Native.Nat.{_<_}
+use lib.Dec.{eqb}
+use lib.ListN.{length}
+use borrow.Author.Tests.{eqb-true, leb-false, ltb-true, not-false}
 use Rattle.words.specs.Lists.{find, any}
 use Rattle.words.specs.Rules.{answer}
-use Rattle.laws.proofs.Cases.{on, and-left, and-right}
-use Rattle.laws.proofs.Lists.{any-none}
+use Rattle.laws.proofs.Cases.{on, and-left}
 use Rattle.laws.proofs.Rules.{answer-none}
-use Rattle.meaning.specs.Time.{days, nextDay, allGates, everyGateClosed, currentDay}
+use Rattle.meaning.specs.Time.{nextDay, allGates, everyGateClosed, currentDay}
 use Rattle.meaning.specs.Authorisations.{rowAt, expired, sameAccounts}
-use Rattle.meaning.specs.Ledgers.{Sort, originatorOf, isHeld, everySlotHeld, lowestUnheld}
-use Rattle.meaning.specs.Messages.{Entry, Notification, Nullification, Message, notification, nullification, from}
+use Rattle.meaning.specs.Ledgers.{Sort, originatorOf, isHeld, everySlotHeld}
+use Rattle.meaning.specs.Messages.{Entry, Notification, Nullification, notification, nullification}
 use Rattle.meaning.specs.Books.{Book, hasAuthorisation}
 use Rattle.meaning.specs.Soundness.{sound}
 use Rattle.meaning.specs.Notifications.{under, originatorRight, volumeWrong, notificationRules}
-use Rattle.meaning.specs.Calls.{Call, gate, message, gateRules, nullificationRules, rulesFor, refusal, accepted}
+use Rattle.meaning.specs.Calls.{Call, gate, message, gateRules, nullificationRules, rulesFor, accepted}
 use Rattle.meaning.proofs.Held.{Room, unheld-is}
 
 module _ {K : Sort} (b : Book K) where

@@ -1,17 +1,17 @@
 -- Gates, the current day, and where a message reaches: the document's "the later of its first day and the current day" says no more of an
 -- open place than the first day does.
-use mathlib.Core.Bool.{Bool, true, false, cond, _&&_}
-use mathlib.Core.List.{List, [], _∷_}
-use mathlib.Core.Path.{_≡_, refl, sym, ap, _∙_}
-use Prim.Native.Nat.{ℕ, zero, suc, _+_, _-_, _≤_, _<_, max}
+use mathlib.Core.Bool.{true, _&&_}
+use mathlib.Core.List.{List}
+use mathlib.Core.Path.{_≡_}
+use Prim.Native.Nat.{ℕ, suc, _+_, _-_, _≤_, _<_, max}
 use native.Mathlib.Omega.{arith}
 use lib.Dec.{leb, ltb, eqb}
 use lib.ListN.{length, getD}
-use borrow.Author.Tests.{leb-true, leb-false, ltb-true, ltb-false, lt-ltb, le-ltb, le-leb, lt-leb, eqb-true}
-use Rattle.words.specs.Below.{firstBelow, sumBelow}
+use borrow.Author.Tests.{leb-true, leb-false, ltb-true, lt-ltb, le-leb, lt-leb}
+use Rattle.words.specs.Below.{sumBelow}
 use Rattle.laws.proofs.Cases.{on, and-left, and-right}
-use Rattle.laws.proofs.Below.{first-before, sum-next, sum-mono}
-use Rattle.meaning.specs.Time.{Time, periodsOfCode, periodsAt, isPeriodAt, gatesBefore, allGates, isOpenAt, days, dayNumber, dayOf, isPeriod, isOpen, currentDay}
+use Rattle.laws.proofs.Below.{first-before, sum-next}
+use Rattle.meaning.specs.Time.{Time, periodsOfCode, periodsAt, isPeriodAt, gatesBefore, isOpenAt, days, dayNumber, dayOf, isPeriod, currentDay}
 use Rattle.meaning.specs.Ledgers.{Sort}
 use Rattle.meaning.specs.Messages.{Message, from, reaches}
 

@@ -1,36 +1,36 @@
 -- What follows from the history and beside it: a refused call changes nothing, a closed place never changes, every stored volume of every slot
 -- follows from the history, and so do the identifiers that are held and their slots.
-use mathlib.Core.Bool.{Bool, true, false, _&&_, _||_}
-use mathlib.Core.List.{List, [], _∷_}
-use mathlib.Core.Logic.{_≢_, _⊎_, inl, inr, ⊎-elim}
-use mathlib.Core.Path.{_≡_, refl, sym, ap, _∙_, subst}
-use Prim.Native.Nat.{ℕ, zero, suc, _+_, _≤_, _<_}
+use mathlib.Core.Bool.{Bool, true, false, _||_}
+use mathlib.Core.List.{List}
+use mathlib.Core.Logic.{_≢_}
+use mathlib.Core.Path.{_≡_, refl, sym, ap, _∙_}
+use Prim.Native.Nat.{ℕ, suc, _+_, _≤_, _<_}
 use native.Mathlib.Omega.{arith}
-use lib.Dec.{leb, ltb, eqb}
+use lib.Dec.{eqb}
 use lib.ListN.{length, getD, replicate, length-replicate}
 use borrow.Author.Tests.{ne-eqb, ltb-false, le-ltb}
 use Rattle.words.specs.Lists.{any, find}
 use Rattle.words.specs.Rules.{answer}
-use Rattle.words.specs.Runs.{step, run}
+use Rattle.words.specs.Runs.{step}
 use Rattle.laws.proofs.Cases.{and-false, or-false}
 use Rattle.laws.proofs.Lists.{find-replicate}
 use Rattle.laws.proofs.Runs.{foldl, foldl-any, run-keeps, run-folds, refused-nothing}
 use Rattle.meaning.specs.Time.{Time, isOpenAt, gatesBefore, days, dayOf, isPeriod, isOpen, withGateClosed}
 use Rattle.meaning.specs.Authorisations.{Authorisation}
-use Rattle.meaning.specs.Ledgers.{Sort, index, at, places, isHeld, Side, side, emptyLedger}
-use Rattle.meaning.specs.Messages.{Message, notification, nullification, about, from, heldAfter, written}
+use Rattle.meaning.specs.Ledgers.{Sort, index, at, isHeld, Side, side, emptyLedger}
+use Rattle.meaning.specs.Messages.{notification, nullification, about, heldAfter, written}
 use Rattle.meaning.specs.Books.{Setup, openingRules, Book, openedBook}
 use Rattle.meaning.specs.Calls.{Call, gate, message, refusal, accepted, act}
 use Rattle.meaning.specs.History.{Event, event, concerns, decides, standing, after, eventsOf}
 use Rattle.meaning.proofs.Places.{slot-index, index-lt}
 use Rattle.meaning.proofs.Clock.{is-period-on}
-use Rattle.meaning.proofs.Sound.{Lawful, Sound, parts}
+use Rattle.meaning.proofs.Sound.{Lawful, Sound}
 use Rattle.meaning.proofs.Standing.{length-side}
 use Rattle.meaning.proofs.Held.{with-holds, unheld-is}
 use Rattle.meaning.proofs.Accepted.{call-passes}
 use Rattle.meaning.proofs.Keeps.{keeps}
 use Rattle.meaning.proofs.Moves.{concerns-is, moves, stands-held, unheld-nothing}
-use Rattle.meaning.proofs.History.{SameBook, same-book, act-same, same-period, after-same, after-running, history}
+use Rattle.meaning.proofs.History.{SameBook, same-book, act-same, same-period, after-running, history}
 
 -- ---- a refused call
 

@@ -1,22 +1,17 @@
 -- Demand 3: after any calls on an opened book, what stands for every identifier, side, day and period is what the last accepted message that
 -- concerns it gives.
-use mathlib.Core.Bool.{Bool, true, false, cond, _&&_}
-use mathlib.Core.List.{List, [], _∷_}
-use mathlib.Core.Path.{_≡_, refl, sym, ap, _∙_, subst}
-use Prim.Native.Nat.{ℕ, zero, suc, _≤_, _<_}
+use mathlib.Core.Bool.{true}
+use mathlib.Core.List.{List}
+use mathlib.Core.Path.{_≡_, refl, _∙_}
+use Prim.Native.Nat.{ℕ, suc}
 use native.Mathlib.Omega.{arith}
-use lib.ListN.{length, getD, replicate, length-replicate, getD-replicate}
-use Rattle.words.specs.Lists.{find}
+use lib.ListN.{length-replicate}
 use Rattle.words.specs.Rules.{answer}
-use Rattle.words.specs.Runs.{run, trace, decided}
-use Rattle.laws.proofs.Cases.{on, by-lt}
 use Rattle.laws.proofs.Lists.{find-replicate}
 use Rattle.laws.proofs.Runs.{run-keeps}
 use Rattle.laws.proofs.Runs as Runs
-use Rattle.meaning.specs.Time.{Time, days, dayOf, isPeriod, isPeriodAt, withGateClosed}
-use Rattle.meaning.specs.Authorisations.{Authorisation}
+use Rattle.meaning.specs.Time.{isPeriod, withGateClosed}
 use Rattle.meaning.specs.Ledgers.{Sort, Side, emptyLedger}
-use Rattle.meaning.specs.Messages.{Message}
 use Rattle.meaning.specs.Books.{Setup, openingRules, Book, openedBook}
 use Rattle.meaning.specs.Soundness.{sound}
 use Rattle.meaning.specs.Calls.{Call, gate, message, accepted, act}

@@ -1,31 +1,30 @@
 -- An opened book is sound, and every accepted call keeps it sound.
-use mathlib.Core.Bool.{Bool, true, false, not, cond, _&&_, _||_, false≢true}
+use mathlib.Core.Bool.{Bool, true, false, not, _&&_, false≢true}
 use mathlib.Core.List.{List, [], _∷_}
-use mathlib.Core.Logic.{_⊎_, inl, inr, ⊎-elim}
-use mathlib.Core.Path.{_≡_, refl, sym, ap, _∙_, subst}
-use Prim.Native.Nat.{ℕ, zero, suc, _+_, _*_, _≤_, _<_}
+use mathlib.Core.Logic.{_⊎_, ⊎-elim}
+use mathlib.Core.Path.{_≡_, refl, sym, ap, _∙_}
+use Prim.Native.Nat.{ℕ, zero, suc, _<_}
 use native.Mathlib.Omega.{arith}
-use lib.Dec.{leb, ltb, eqb}
-use lib.ListN.{length, getD, set, length-set, replicate, length-replicate, getD-replicate, List·getD-eq-default}
-use borrow.Author.Tests.{lt-ltb, ltb-true, not-true, not-false, eqb-true, eq-eqb}
-use Rattle.words.specs.Lists.{any, find}
+use lib.Dec.{ltb, eqb}
+use lib.ListN.{length, getD, length-set, replicate, length-replicate, getD-replicate, List·getD-eq-default}
+use borrow.Author.Tests.{lt-ltb, ltb-true, not-false}
+use Rattle.words.specs.Lists.{any}
 use Rattle.words.specs.Rules.{answer}
 use Rattle.laws.proofs.Cases.{on, by-lt, and-left, and-right, or-left, or-right, or-true}
-use Rattle.laws.proofs.Lists.{getD-replicate-same, find-first, any-none}
-use Rattle.laws.proofs.Below.{sum-next}
-use Rattle.meaning.specs.Time.{Time, isPeriodAt, allGates, days, dayNumber, withGateClosed}
+use Rattle.laws.proofs.Lists.{getD-replicate-same}
+use Rattle.meaning.specs.Time.{Time, isPeriodAt, days, dayNumber, withGateClosed}
 use Rattle.meaning.specs.Authorisations.{Authorisation}
-use Rattle.meaning.specs.Ledgers.{Sort, stands, slotAt, dayAt, periodAt, places, originatorOf, holds, Ledger, Side, one, two, side, emptyLedger}
-use Rattle.meaning.specs.Messages.{Entry, Notification, Message, notification, nullification, about, leaves, volume, says, reaches, rewritten, heldAfter, written}
-use Rattle.meaning.specs.Books.{Setup, openingRules, Book, openedBook, setupOf}
+use Rattle.meaning.specs.Ledgers.{Sort, stands, slotAt, dayAt, periodAt, places, holds, Ledger, Side, one, two, side, emptyLedger}
+use Rattle.meaning.specs.Messages.{Entry, Message, notification, nullification, about, leaves, volume, says, reaches, rewritten, heldAfter, written}
+use Rattle.meaning.specs.Books.{Setup, openingRules, Book, openedBook}
 use Rattle.meaning.specs.Soundness.{placeRight, sound}
 use Rattle.meaning.specs.Calls.{Call, gate, message, accepted, act}
 use Rattle.meaning.proofs.Places.{length-rewritten, rewritten-at}
 use Rattle.meaning.proofs.Clock.{reaches-period}
-use Rattle.meaning.proofs.SetupRules.{Opens, opens}
+use Rattle.meaning.proofs.SetupRules.{opens}
 use Rattle.meaning.proofs.Sound.{Lawful, SlotHolds, Sound, parts, whole}
-use Rattle.meaning.proofs.Held.{Room, Apart, with, with-entry, with-apart}
-use Rattle.meaning.proofs.Accepted.{Passes, NotificationPasses, CallPasses, call-passes}
+use Rattle.meaning.proofs.Held.{with-entry, with-apart}
+use Rattle.meaning.proofs.Accepted.{Passes, CallPasses, call-passes}
 
 module _ {K : Sort} (lawful : Lawful K) where
   -- ---- a place is right where nothing stands, and where a volume in range stands at a period of a held slot's day

@@ -1,26 +1,26 @@
 -- One accepted call and one place: what stands afterwards is what the call gives where it concerns the place, and else what stood.
 use mathlib.Core.Bool.{Bool, true, false, cond, _&&_, false≢true}
-use mathlib.Core.List.{List, [], _∷_}
-use mathlib.Core.Logic.{_⊎_, inl, inr, ⊎-elim}
-use mathlib.Core.Path.{_≡_, refl, sym, ap, _∙_, subst}
-use Prim.Native.Nat.{ℕ, zero, suc, _+_, _-_, _*_, _≤_, _<_}
+use mathlib.Core.List.{List}
+use mathlib.Core.Logic.{_⊎_, inl, ⊎-elim}
+use mathlib.Core.Path.{_≡_, refl, sym, ap, _∙_}
+use Prim.Native.Nat.{ℕ, suc, _-_, _≤_, _<_}
 use native.Mathlib.Omega.{arith}
-use lib.Dec.{leb, ltb, eqb}
+use lib.Dec.{leb}
 use lib.ListN.{length, getD}
-use borrow.Author.Tests.{eqb-true, lt-ltb, le-ltb, ltb-true, ltb-false, not-false, ne-eqb}
+use borrow.Author.Tests.{lt-ltb, le-ltb, ne-eqb}
 use Rattle.words.specs.Lists.{find}
 use Rattle.laws.proofs.Cases.{on, by-lt, by-eq, and-right, and-assoc, same-either}
 use Rattle.laws.proofs.Lists.{find-at}
-use Rattle.meaning.specs.Time.{Time, isPeriodAt, isOpenAt, days, dayNumber, dayOf, isPeriod, isOpen, withGateClosed}
+use Rattle.meaning.specs.Time.{Time, isPeriodAt, days, dayNumber, dayOf, isPeriod, isOpen, withGateClosed}
 use Rattle.meaning.specs.Authorisations.{Authorisation, rowAt, isPair}
-use Rattle.meaning.specs.Ledgers.{Sort, index, slotAt, at, places, originatorOf, holds, isHeld, slotOf, Ledger, Side, one, two, side}
-use Rattle.meaning.specs.Messages.{Message, notification, nullification, about, from, leaves, volume, says, reaches, rewritten, heldAfter, written}
+use Rattle.meaning.specs.Ledgers.{Sort, index, slotAt, at, originatorOf, Side, side}
+use Rattle.meaning.specs.Messages.{Message, notification, nullification, about, from, leaves, says, rewritten, heldAfter, written}
 use Rattle.meaning.specs.Books.{Book}
 use Rattle.meaning.specs.Soundness.{placeRight}
 use Rattle.meaning.specs.Calls.{Call, gate, message, accepted, act}
 use Rattle.meaning.specs.History.{concerns, gives, standing}
 use Rattle.meaning.proofs.Places.{slot-index, day-index, period-index, index-lt, rewritten-at}
-use Rattle.meaning.proofs.Clock.{IsPeriod, is-period-on, reaches-is}
+use Rattle.meaning.proofs.Clock.{is-period-on, reaches-is}
 use Rattle.meaning.proofs.Sound.{Lawful, Sound}
 use Rattle.meaning.proofs.Standing.{length-side}
 use Rattle.meaning.proofs.Held.{Room, with-now, with-after, held-is, unheld-is}

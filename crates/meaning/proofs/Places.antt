@@ -1,16 +1,15 @@
 -- A place's slot, day and period, and back; what a rewritten table holds there.
-use mathlib.Core.Bool.{Bool, true, false, cond, _&&_}
+use mathlib.Core.Bool.{cond, _&&_}
 use mathlib.Core.List.{List}
-use mathlib.Core.Path.{_≡_, refl, sym, ap, _∙_}
+use mathlib.Core.Path.{_≡_, ap, _∙_}
 use Prim.Native.Nat.{ℕ, suc, _+_, _-_, _*_, _/_, _%_, _≤_, _<_}
-use native.Mathlib.Nat.{mod-lt, div-add-mod', div-lt-iff-lt-mul}
 use native.Mathlib.Omega.{arith}
 use lib.Arith.{digits-lt, digits-div, digits-mod}
 use lib.ListN.{length, getD}
 use Rattle.laws.proofs.Lists.{length-mapAt, getD-mapAt}
 use Rattle.meaning.specs.Time.{Time, days, dayNumber}
 use Rattle.meaning.specs.Authorisations.{Authorisation}
-use Rattle.meaning.specs.Ledgers.{Sort, index, slotAt, dayAt, periodAt, at, places, holds, Side}
+use Rattle.meaning.specs.Ledgers.{Sort, index, slotAt, dayAt, periodAt, places, holds, Side}
 use Rattle.meaning.specs.Messages.{Message, about, leaves, says, reaches, rewritten}
 
 module _ (n k : ℕ) {d period : ℕ} (hd : d < n) (h1 : 1 ≤ period) (h50 : period ≤ 50) where

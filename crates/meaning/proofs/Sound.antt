@@ -1,22 +1,19 @@
 -- A sound book, part by part: one field a rule of document 01, as proofs use them; and back to the test.
-use mathlib.Core.Bool.{Bool, true, false, not, cond, _&&_, _||_}
-use mathlib.Core.List.{List, [], _∷_}
-use mathlib.Core.Logic.{_≢_}
-use mathlib.Core.Path.{_≡_, refl, sym, ap, _∙_, subst}
-use Prim.Native.Nat.{ℕ, zero, suc, _+_, _*_, _≤_, _<_}
+use mathlib.Core.Bool.{true, _&&_}
+use mathlib.Core.List.{List}
+use mathlib.Core.Path.{_≡_, refl}
+use Prim.Native.Nat.{ℕ, zero, suc, _≤_, _<_}
 use native.Mathlib.Omega.{arith}
 use lib.Dec.{leb, ltb, eqb}
 use lib.ListN.{length, getD}
-use borrow.Author.Tests.{eqb-true, eq-eqb, leb-true, le-leb, ltb-true, lt-ltb, not-false, not-true}
+use borrow.Author.Tests.{eqb-true, eq-eqb, leb-true, le-leb, ltb-true, lt-ltb}
 use Rattle.words.specs.Lists.{find, everyAt}
 use Rattle.words.specs.Rules.{answer}
-use Rattle.laws.proofs.Cases.{on, by-eq, and-left, and-right, or-left, or-right}
-use Rattle.laws.proofs.Lists.{everyAt-at, at-everyAt, any-none}
-use Rattle.laws.proofs.Rules.{answer-none}
-use Rattle.meaning.specs.Time.{Time, days, allGates}
-use Rattle.meaning.specs.Authorisations.{Authorisation, noRow, rowAt, rowWrong}
-use Rattle.meaning.specs.Ledgers.{Sort, stands, places, originatorOf, slotAt, Ledger, Side, one, two, side}
-use Rattle.meaning.specs.Books.{Setup, countsWrong, lastDayWrong, codeWrong, lentWrong, someRowWrong, openingRules, Book, setupOf}
+use Rattle.laws.proofs.Cases.{and-left, and-right}
+use Rattle.laws.proofs.Lists.{everyAt-at, at-everyAt}
+use Rattle.meaning.specs.Time.{allGates}
+use Rattle.meaning.specs.Ledgers.{Sort, originatorOf, Side, one, two, side}
+use Rattle.meaning.specs.Books.{openingRules, Book, setupOf}
 use Rattle.meaning.specs.Soundness.{slotRight, heldRight, placeRight, tableRight, sound}
 
 -- what is asked of a sort: its test of equality is one, and what an omitted period gets may stand

@@ -1,7 +1,7 @@
 -- Document 01, "Table to prove": P1 to P13, each a test on the definitions, and one claim that all of them pass.
 use mathlib.Core.Path.{_≡_, refl}
 use mathlib.Core.Bool.{Bool, true, _&&_}
-use mathlib.Core.List.{List, [], _∷_}
+use mathlib.Core.List.{[], _∷_}
 use Prim.Native.Nat.{ℕ, _+_}
 use lib.IntN.{ℤ, pos, negℤ}
 use lib.ListN.{replicate}

@@ -1,14 +1,13 @@
 -- Document 01, "Matching, totals, marks": a figure on a bar, seen from the asking account.
-use mathlib.Core.Bool.{Bool, not, _&&_}
+use mathlib.Core.Bool.{not, _&&_}
 use mathlib.Core.List.{List}
 use Prim.Native.Nat.{ℕ}
 use lib.IntN.{ℤ}
 use lib.Ieee.{Float}
-use lib.ListN.{getD}
 use Rattle.words.specs.Tests.{if_then_else_, _=?_}
 use Rattle.words.specs.Rules.{Rule, _when_else_, done, answer}
 use Rattle.meaning.specs.Time.{days, dayOf, isPeriod}
-use Rattle.meaning.specs.Authorisations.{Authorisation, rowAt, inPair}
+use Rattle.meaning.specs.Authorisations.{rowAt, inPair}
 use Rattle.meaning.specs.Ledgers.{contracts, stands, at, originatorOf, isHeld, slotOf}
 use Rattle.meaning.specs.Books.{Book, hasAccount}
 use Rattle.meaning.specs.Soundness.{sound}

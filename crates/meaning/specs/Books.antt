@@ -1,11 +1,11 @@
 -- Document 01, "The book" and "Answer numbers": the setup and its rules, the book, and opening (17, 18).
 use mathlib.Core.Bool.{Bool, not, _&&_, _||_}
 use mathlib.Core.List.{List}
-use Prim.Native.Nat.{ℕ, suc, _+_}
+use Prim.Native.Nat.{ℕ, _+_}
 use lib.ListN.{length}
-use Rattle.words.specs.Tests.{_<?_, _≤?_, _=?_, between}
+use Rattle.words.specs.Tests.{_<?_, _=?_, between}
 use Rattle.words.specs.Lists.{any}
-use Rattle.words.specs.Rules.{Rule, _when_else_, done, answer}
+use Rattle.words.specs.Rules.{Rule, _when_else_, done}
 use Rattle.meaning.specs.Time.{Time, evergreen}
 use Rattle.meaning.specs.Authorisations.{Authorisation, rowWrong}
 use Rattle.meaning.specs.Ledgers.{Sort, places, Ledger, emptyLedger}

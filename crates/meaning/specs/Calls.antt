@@ -1,11 +1,10 @@
 -- Document 01, "Answer numbers" and "What a notification does": the calls that change a book, their refusals and their effect.
-use mathlib.Core.Bool.{Bool, not, _&&_, _||_}
+use mathlib.Core.Bool.{Bool, not, _||_}
 use mathlib.Core.List.{List}
 use Prim.Native.Nat.{ℕ}
-use Rattle.words.specs.Tests.{_<?_, _≤?_, _=?_}
+use Rattle.words.specs.Tests.{_≤?_, _=?_}
 use Rattle.words.specs.Rules.{Rule, _when_else_, done, answer}
-use Rattle.words.specs.Runs.{step, run}
-use Rattle.meaning.specs.Time.{Time, nextDay, everyGateClosed, withGateClosed}
+use Rattle.meaning.specs.Time.{nextDay, everyGateClosed, withGateClosed}
 use Rattle.meaning.specs.Ledgers.{Sort}
 use Rattle.meaning.specs.Messages.{Nullification, Message, notification, nullification, written}
 use Rattle.meaning.specs.Books.{Book, hasAccount}

@@ -1,15 +1,15 @@
 -- Demand 3, in the customer's words: "every stored volume follows from the history alone (the last relevant accepted message decides)".
 -- Written apart from what a call does to the tables.
-use mathlib.Core.Bool.{Bool, true, false, _&&_}
+use mathlib.Core.Bool.{Bool, false, _&&_}
 use mathlib.Core.List.{List}
 use Prim.Native.Nat.{ℕ}
 use Rattle.words.specs.Tests.{if_then_else_, _<?_, _≤?_, _=?_}
 use Rattle.words.specs.Runs.{run, trace, decided}
 use Rattle.meaning.specs.Time.{Time, days, dayOf, isOpen}
 use Rattle.meaning.specs.Authorisations.{Authorisation, rowAt, isPair}
-use Rattle.meaning.specs.Ledgers.{Sort, at, originatorOf, isHeld, slotOf, Side, side, Ledger}
-use Rattle.meaning.specs.Messages.{Notification, Nullification, Message, notification, nullification, writes, volume}
-use Rattle.meaning.specs.Books.{Setup, Book, openedBook}
+use Rattle.meaning.specs.Ledgers.{Sort, at, originatorOf, isHeld, slotOf, Side, side}
+use Rattle.meaning.specs.Messages.{notification, nullification, writes, volume}
+use Rattle.meaning.specs.Books.{Book}
 use Rattle.meaning.specs.Calls.{Call, gate, message, accepted, act}
 
 -- an accepted call, and the time at which it arrived

@@ -1,10 +1,10 @@
 -- Document 01, "The book": what a place holds, the places of a side's table, and the identifiers that are held.
-use mathlib.Core.Bool.{Bool, true, false, not, _&&_}
-use mathlib.Core.List.{List, [], _∷_}
+use mathlib.Core.Bool.{Bool, false, not}
+use mathlib.Core.List.{List}
 use Prim.Native.Nat.{ℕ, zero, suc, _+_, _-_, _*_, _/_, _%_}
 use lib.IntN.{ℤ, pos, negsuc}
 use lib.ListN.{length, getD, replicate}
-use Rattle.words.specs.Tests.{if_then_else_, _<?_, _≤?_, _=?_, sameℤ, within}
+use Rattle.words.specs.Tests.{if_then_else_, _<?_, _≤?_, sameℤ, within}
 use Rattle.words.specs.Lists.{find}
 use Rattle.meaning.specs.Authorisations.{Authorisation, noRow, rowAt}
 

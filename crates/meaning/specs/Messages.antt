@@ -1,8 +1,8 @@
 -- Document 01, "What a notification does": notifications and nullifications, whom they are about, and what they say.
-use mathlib.Core.Bool.{Bool, true, false, _&&_}
+use mathlib.Core.Bool.{Bool, _&&_}
 use mathlib.Core.List.{List, [], _∷_}
-use Prim.Native.Nat.{ℕ, zero, suc, max}
-use lib.ListN.{length, getD, set}
+use Prim.Native.Nat.{ℕ, suc, max}
+use lib.ListN.{getD, set}
 use Rattle.words.specs.Tests.{if_then_else_, _<?_, _≤?_, _=?_}
 use Rattle.words.specs.Lists.{mapAt}
 use Rattle.meaning.specs.Time.{Time, days, dayNumber, isPeriodAt, isOpenAt, currentDay}

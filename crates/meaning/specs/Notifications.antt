@@ -1,5 +1,5 @@
 -- Document 01, "What a notification does" and "Answer numbers" (1 to 14): what can be wrong with a notification, its kind, and its answer.
-use mathlib.Core.Bool.{Bool, true, false, not, _&&_, _||_}
+use mathlib.Core.Bool.{Bool, true, not, _&&_, _||_}
 use mathlib.Core.List.{List, [], _∷_}
 use Prim.Native.Nat.{ℕ, suc}
 use lib.ListN.{length, getD}
@@ -9,7 +9,7 @@ use Rattle.words.specs.Lists.{any}
 use Rattle.words.specs.Rules.{Rule, _when_else_, done, answer}
 use Rattle.meaning.specs.Time.{periodsAt, days, dayNumber, dayOf, isOpenAt, nextDay, everyGateClosed, currentDay}
 use Rattle.meaning.specs.Authorisations.{Authorisation, rowAt, inForce, expired, sameAccounts}
-use Rattle.meaning.specs.Ledgers.{Sort, stands, at, originatorOf, isHeld, slotOf, slotFor, everySlotHeld, holds, originIn, one, two}
+use Rattle.meaning.specs.Ledgers.{Sort, stands, at, originatorOf, isHeld, slotOf, slotFor, everySlotHeld, holds, one, two}
 use Rattle.meaning.specs.Messages.{Entry, Notification, writes}
 use Rattle.meaning.specs.Books.{Book, hasAuthorisation}
 use Rattle.meaning.specs.Soundness.{sound}

@@ -1,8 +1,7 @@
 -- Document 01, "Packed messages": the layouts of messages, reading and writing.
-use mathlib.Core.Bool.{Bool, not, _&&_, _||_}
+use mathlib.Core.Bool.{Bool, not, _||_}
 use mathlib.Core.List.{List, [], _∷_, _++_}
 use Prim.Native.Nat.{ℕ, _+_, _-_}
-use lib.IntN.{ℤ}
 use lib.ListN.{length, getD, drop}
 use Rattle.words.specs.Tests.{if_then_else_, _<?_, _=?_}
 use Rattle.words.specs.Lists.{every}

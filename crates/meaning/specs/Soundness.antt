@@ -7,7 +7,7 @@ use Rattle.words.specs.Tests.{_<?_, _≤?_, _=?_}
 use Rattle.words.specs.Lists.{everyAt, find}
 use Rattle.words.specs.Rules.{answer}
 use Rattle.meaning.specs.Time.{isPeriodAt, allGates}
-use Rattle.meaning.specs.Ledgers.{Sort, stands, slotAt, dayAt, periodAt, originatorOf, holds}
+use Rattle.meaning.specs.Ledgers.{Sort, stands, slotAt, dayAt, periodAt, originatorOf}
 use Rattle.meaning.specs.Books.{openingRules, Book, setupOf}
 
 -- "held identifiers differ and name known originators": none stands in a slot before its own, and its originator is below `known`
