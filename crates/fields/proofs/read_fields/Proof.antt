@@ -1,0 +1,117 @@
+use borrow.Author.Needs.{needs}
+use mathlib.Core.Path.{_≡_, refl, sym, ap, _∙_}
+use mathlib.Core.List.{List, map, _++_}
+use Prim.Native.Nat.{ℕ, _+_, _-_, _*_, _≤_, _<_, min}
+use native.Mathlib.Omega.{arith}
+use denote.Ref.{now}
+use lib.ListN.{length, take, drop, getD, length-map, length-set, List·getD-map}
+use Rattle.words.specs.Fields.{total, readAll, fieldAt}
+use Rattle.laws.proofs.FieldLoops.{total-more, fill-more}
+use Rattle.fields.specs.Narrow.{narrow, fewest, readInto}
+use Rattle.fields.proofs.read_fields.Statement.{statement}
+use Rattle.fields.proofs.read_fields.Tie as tie
+use Rattle.fields.proofs.read_fields.Reads as reads
+use Rattle.fields.proofs.read_fields.Lts as lts
+use Rattle.fields.proofs.fewest_of.Reads as fewest-of-reads
+use Rattle.fields.proofs.narrowed.Reads as narrowed-reads
+use Rattle.fields.proofs.read_bits.Reads as read-bits-reads
+
+abbrev Inv-loop : tie.InvT-loop
+Inv-loop src at widths out₀ n p₀ i₀ out p i =
+    (i ≤ n) × (n ≡ fewest (length widths) (length out₀)) × (p ≡ at + total (take i (map narrow widths))) × (p ≤ at + 32 * i)
+    × (out ≡ readAll src at (take i (map narrow widths)) ++ drop i out₀) × (length out ≡ length out₀)
+
+abbrev μ-loop : tie.MeasureT-loop
+μ-loop src at widths out₀ n p₀ i₀ out p i = n - i
+
+-- src/lib.rt:129:9
+fewest-of-requires : tie.Need-fewest-of-requires Inv-loop μ-loop
+fewest-of-requires c κs = search needs
+
+-- src/lib.rt:132:5
+loop-holds : tie.Need-loop-holds Inv-loop μ-loop
+loop-holds c = search needs
+
+-- src/lib.rt:133:26
+shared-slice-read-narrowed : tie.Need-shared-slice-read-narrowed Inv-loop μ-loop
+shared-slice-read-narrowed c = search needs
+
+-- src/lib.rt:133:13
+narrowed-requires : tie.Need-narrowed-requires Inv-loop μ-loop
+narrowed-requires c κs = search needs
+
+-- src/lib.rt:134:18
+read-bits-requires : tie.Need-read-bits-requires Inv-loop μ-loop
+read-bits-requires c κs = search needs
+
+-- src/lib.rt:134:9
+mul-out : tie.Need-mul-out Inv-loop μ-loop
+mul-out c = search needs
+
+-- src/lib.rt:134:9
+slice-write-out : tie.Need-slice-write-out Inv-loop μ-loop
+slice-write-out c = search needs
+
+-- src/lib.rt:135:9
+add-p : tie.Need-add-p Inv-loop μ-loop
+add-p c = search needs
+
+-- src/lib.rt:136:9
+add-i : tie.Need-add-i Inv-loop μ-loop
+add-i c = search needs
+
+-- src/lib.rt:132:5
+loop-less : tie.Need-loop-less Inv-loop μ-loop
+loop-less c = search needs
+
+-- src/lib.rt:132:5
+loop-again : tie.Need-loop-again Inv-loop μ-loop
+loop-again c =
+    let a = c .before .before .before .before .before .before .before .before .before .args in
+    let l = c .before .before .before .before .loop in
+    let ws = now (a .widths) in
+    let us = map narrow ws in
+    let inside : l .i < length us = omega (arith, length-map ws narrow) in
+    let w : c .before .narrowed .result ≡ getD us (l .i) 0 = c .before .narrowed .ensures ∙ sym (List·getD-map narrow ws (l .i) 0) in
+    let value : c .read-bits .result ≡ fieldAt (now (a .src)) (a .at + total (take (l .i) us)) (getD us (l .i) 0) =
+    c .read-bits .ensures ∙ rw (w, l .inv .2) in (
+      omega arith,
+      l .inv .1,
+      omega (arith, total-more us (l .i) inside, w),
+      omega (arith, c .before .narrowed .ensures),
+      rw (l .inv .4, value) (fill-more (now (a .out)) (now (a .src)) (a .at) us (l .i) inside (omega arith)),
+      length-set (l .out) (l .i) (c .read-bits .result) ∙ l .inv .5,
+    )
+
+-- src/lib.rt:126:1
+same-length : tie.Need-same-length Inv-loop μ-loop
+same-length c = search needs
+
+-- src/lib.rt:126:1
+returns : tie.Need-returns Inv-loop μ-loop
+unfolding readInto
+returns c =
+    let a = c .before .before .before .before .before .before .args in
+    let l = c .before .loop in
+    let e : l .i ≡ fewest (length (now (a .widths))) (length (now (a .out))) = omega (arith, l .inv .1) in
+    l .inv .4 ∙ rw e
+
+pub read-fields-spec : {M : Type 1} → statement M
+read-fields-spec =
+    tie.close
+    (tie.spec
+    Inv-loop
+    μ-loop
+    fewest-of-requires
+    loop-holds
+    shared-slice-read-narrowed
+    narrowed-requires
+    read-bits-requires
+    mul-out
+    slice-write-out
+    add-p
+    add-i
+    loop-less
+    loop-again
+    same-length
+    returns)
