@@ -8,9 +8,13 @@ ghost use Rattle.words.specs.Fields.{weight, bitAt, fieldAt, withBit, setBit, s
 ghost use Rattle.fields.specs.Narrow.{narrow, fewest, readInto, writeFrom, volumeBits};
 
 const WIDEST_FIELD: usize = 32;
+
 const MOST_FIELDS: usize = 64;
+
 const VOLUME_SPAN: i32 = 268435456;
+
 const VOLUME_HALF: i32 = 134217728;
+
 const VOLUME_LEAST: i32 = -134217728;
 
 // The weight of bit p in its byte.
@@ -94,11 +98,7 @@ fn narrowed(width: u8) -> usize
 fn lesser(a: usize, b: usize) -> usize
     ensures { λ r. ⌜ r ≡ min a b ⌝ }
 {
-    if a < b {
-        a
-    } else {
-        b
-    }
+    if a < b { a } else { b }
 }
 
 // How many fields a call takes of two lists, at most 64.

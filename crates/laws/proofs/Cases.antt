@@ -1,7 +1,7 @@
 -- Splitting on a test with its equation kept, and tests that hold together.
 use mathlib.Core.Bool.{Bool, true, false, cond, _&&_, _||_, true≢false}
 use mathlib.Core.Logic.{_≢_}
-use mathlib.Core.Path.{_≡_, refl, sym}
+use mathlib.Core.Path.{_≡_, refl, sym, _∙_}
 use Prim.Native.Nat.{ℕ, _≤_, _<_}
 use lib.Dec.{ltb, eqb}
 use borrow.Author.Tests.{ltb-true, ltb-false, eqb-true, eqb-false}
@@ -85,3 +85,7 @@ pub same-test : (a b : Bool) → (a ≡ true → b ≡ true) → (b ≡ true →
 same-test true b f g = sym (f refl)
 same-test false true f g = g refl
 same-test false false f g = refl
+
+-- a promise that is an equation has one outcome
+pub one-outcome {ℓ} : {A : Type ℓ} {meant r r′ : A} → r ≡ meant → r′ ≡ meant → r ≡ r′
+one-outcome p q = p ∙ sym q

@@ -3,6 +3,7 @@ pub mod Cases
 pub mod Rules
 pub mod Below
 pub mod Lists
+pub mod Builds
 pub mod Runs
 pub mod Whole
 pub mod Parts

@@ -2,7 +2,7 @@
 use mathlib.Core.Bool.{Bool, true, false, _&&_, _||_}
 use mathlib.Core.List.{List, [], _∷_}
 use mathlib.Core.Option.{Option, none, some}
-use Prim.Native.Nat.{ℕ, suc}
+use Prim.Native.Nat.{ℕ, zero, suc}
 use Rattle.words.specs.Tests.{if_then_else_, _=?_}
 
 module _ {A : Type 0} where
@@ -29,6 +29,11 @@ module _ {A : Type 0} where
 
   unfoldable pub mapAt : (ℕ → A → A) → List A → List A
   mapAt f xs = mapFrom 0 f xs
+
+  -- the list f 0, f 1, .., f (n - 1)
+  unfoldable pub build : ℕ → (ℕ → A) → List A
+  build zero f = []
+  build (suc n) f = f 0 ∷ build n (λ (k : ℕ). f (suc k))
 
   -- the elements that pass; the last element
   unfoldable pub keep : (A → Bool) → List A → List A

@@ -1,3 +1,4 @@
+-- A bit inside the bytes, and 0 past their end.
 use mathlib.Core.Path.{sym}
 use Prim.Native.Nat.{_/_}
 use native.Mathlib.Omega.{arith}
@@ -6,32 +7,23 @@ use Rattle.laws.proofs.Bits.{weight-pos, bit-out}
 use borrow.Author.Needs.{needs}
 use Rattle.fields.proofs.bit.Statement.{statement}
 use Rattle.fields.proofs.bit.Tie as tie
-use Rattle.fields.proofs.bit.Reads as reads
-use Rattle.fields.proofs.bit.Lts as lts
-use Rattle.fields.proofs.weight_of.Reads as weight-of-reads
 
--- src/lib.rt:21:13
 weight-of-requires : tie.Need-weight-of-requires
 weight-of-requires c κs = search needs
 
--- src/lib.rt:22:17
 shared-slice-read-x : tie.Need-shared-slice-read-x
 shared-slice-read-x c = search needs
 
--- src/lib.rt:22:17
 cast-x : tie.Need-cast-x
 cast-x c = omega (arith, c .shared-slice-known2 .given (c .before .before .before .before .args .p / 8))
 
--- src/lib.rt:23:9
 div-result : tie.Need-div-result
 div-result c = omega (arith, weight-pos (c .before .before .before .before .args .p), c .before .weight-of .ensures)
 
--- src/lib.rt:16:1
 returns : tie.Need-returns
 unfolding bitAt
 returns c = rw (c .before .weight-of .ensures)
 
--- src/lib.rt:16:1
 returns-2 : tie.Need-returns-2
 returns-2 c = sym (bit-out _ _ (c .if1 .left))
 

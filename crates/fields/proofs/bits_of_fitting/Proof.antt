@@ -1,3 +1,4 @@
+-- A number below zero with the span added, and any other as it is.
 use mathlib.Core.Path.{_≡_, ap}
 use native.Mathlib.Omega.{arith}
 use lib.IntN.{pos, natAbs, _+ℤ_}
@@ -8,8 +9,6 @@ use Rattle.words.specs.Fields.{bitsOf}
 use Rattle.laws.proofs.Signed.{bits-lt, code-neg, code-pos}
 use Rattle.fields.proofs.bits_of_fitting.Statement.{statement}
 use Rattle.fields.proofs.bits_of_fitting.Tie as tie
-use Rattle.fields.proofs.bits_of_fitting.Reads as reads
-use Rattle.fields.proofs.bits_of_fitting.Lts as lts
 
 sum : (c : tie.Then1) → toZ w32 (ofZ w32 (c .before .args .z)) +ℤ pos 268435456 ≡ pos (bitsOf 27 (c .before .args .z))
 sum c = code-neg (c .before .args .z) (c .before .fits .z) (c .if1 .taken) (c .before .pre)
@@ -25,19 +24,15 @@ same c = code-pos (c .before .args .z) (c .before .fits .z) (c .if1 .left)
 add-result : tie.Need-add-result
 add-result c = rw (sum c) (record { sfits = omega (arith, bits-lt 27 (c .before .args .z) (c .before .pre)) })
 
--- src/lib.rt:97:9
 cast-result : tie.Need-cast-result
 cast-result c = rw (sum-back c) (tt, omega (arith, bits-lt 27 (c .before .args .z) (c .before .pre)))
 
--- src/lib.rt:99:9
 cast-result-2 : tie.Need-cast-result-2
 cast-result-2 c = rw (same c) (tt, omega (arith, bits-lt 27 (c .before .args .z) (c .before .pre)))
 
--- src/lib.rt:92:1
 returns : tie.Need-returns
 returns c = ap natAbs (sum-back c)
 
--- src/lib.rt:92:1
 returns-2 : tie.Need-returns-2
 returns-2 c = ap natAbs (same c)
 

@@ -1,8 +1,6 @@
 -- Where the volume has room its bits are taken, and else 0.
 use borrow.Author.Needs.{needs}
-use mathlib.Core.Bool.{Bool, true, false}
 use mathlib.Core.Path.{_≡_, sym, _∙_}
-use lib.IntN.{ℤ}
 use mir.Syntax.{w32}
 use mir.Facts.{toZ-ofZ}
 use mir.Val.{toZ, ofZ}

@@ -1,35 +1,27 @@
-use mathlib.Core.Path.{sym, ap}
+-- A store inside the bytes, and none past their end.
+use mathlib.Core.Path.{sym}
 use Rattle.words.specs.Fields.{setBit}
 use Rattle.laws.proofs.Bits.{set-bit-out}
 use borrow.Author.Needs.{needs}
 use Rattle.fields.proofs.put_bit.Statement.{statement}
 use Rattle.fields.proofs.put_bit.Tie as tie
-use Rattle.fields.proofs.put_bit.Reads as reads
-use Rattle.fields.proofs.put_bit.Lts as lts
-use Rattle.fields.proofs.with_bit.Reads as with-bit-reads
 
--- src/lib.rt:60:27
 slice-read-with-bit : tie.Need-slice-read-with-bit
 slice-read-with-bit c = search needs
 
--- src/lib.rt:60:18
 with-bit-requires : tie.Need-with-bit-requires
 with-bit-requires c κs = search needs
 
--- src/lib.rt:60:9
 slice-write-dst : tie.Need-slice-write-dst
 slice-write-dst c = search needs
 
--- src/lib.rt:54:1
 same-length : tie.Need-same-length
 same-length c = search needs
 
--- src/lib.rt:54:1
 returns : tie.Need-returns
 unfolding setBit
 returns c = rw (c .with-bit .ensures)
 
--- src/lib.rt:54:1
 returns-2 : tie.Need-returns-2
 returns-2 c = sym (set-bit-out _ _ _ (c .if1 .left))
 

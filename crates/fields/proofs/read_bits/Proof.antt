@@ -1,3 +1,4 @@
+-- After i turns the value is the field of the first i bits.
 use mathlib.Core.Path.{_≡_, refl, ap, _∙_}
 use Prim.Native.Nat.{_+_, _-_, _≤_}
 use native.Mathlib.Omega.{arith}
@@ -7,9 +8,6 @@ use Rattle.laws.proofs.Bits.{bit-lt}
 use Rattle.laws.proofs.Fields.{field-fits, field-more}
 use Rattle.fields.proofs.read_bits.Statement.{statement}
 use Rattle.fields.proofs.read_bits.Tie as tie
-use Rattle.fields.proofs.read_bits.Reads as reads
-use Rattle.fields.proofs.read_bits.Lts as lts
-use Rattle.fields.proofs.bit.Reads as bit-reads
 
 abbrev Inv-loop : tie.InvT-loop
 Inv-loop src at width value₀ i₀ value i = (i ≤ width) × (value ≡ fieldAt src at i)
@@ -17,48 +15,39 @@ Inv-loop src at width value₀ i₀ value i = (i ≤ width) × (value ≡ fieldA
 abbrev μ-loop : tie.MeasureT-loop
 μ-loop src at width value₀ i₀ value i = width - i
 
--- src/lib.rt:36:5
 loop-holds : tie.Need-loop-holds Inv-loop μ-loop
 unfolding fieldAt
 loop-holds c = (omega arith, refl)
 
--- src/lib.rt:37:17
 mul-value : tie.Need-mul-value Inv-loop μ-loop
 mul-value c =
     let a = c .before .before .before .args in
     let i = c .before .loop .i in
     omega (arith, field-fits (now (a .src)) (a .at) i 31 (omega arith))
 
--- src/lib.rt:37:38
 add-bit : tie.Need-add-bit Inv-loop μ-loop
 add-bit c = omega arith
 
--- src/lib.rt:37:29
 bit-requires : tie.Need-bit-requires Inv-loop μ-loop
 bit-requires c κs = tt
 
--- src/lib.rt:37:17
 add-value : tie.Need-add-value Inv-loop μ-loop
 add-value c =
     let a = c .before .before .before .before .args in
     let i = c .before .before .loop .i in
     omega (arith, field-fits (now (a .src)) (a .at) i 31 (omega arith), bit-lt (now (a .src)) (a .at + i))
 
--- src/lib.rt:38:9
 add-i : tie.Need-add-i Inv-loop μ-loop
 add-i c = omega arith
 
--- src/lib.rt:36:5
 loop-less : tie.Need-loop-less Inv-loop μ-loop
 loop-less c = omega arith
 
--- src/lib.rt:36:5
 loop-again : tie.Need-loop-again Inv-loop μ-loop
 loop-again c =
     let a = c .before .before .before .before .args in
     (omega arith, cc (field-more (now (a .src)) (a .at) (c .before .before .loop .i)))
 
--- src/lib.rt:30:1
 returns : tie.Need-returns Inv-loop μ-loop
 returns c =
     let a = c .before .before .before .args in

@@ -1,8 +1,6 @@
 -- The width made narrow, then the bits.
 use borrow.Author.Needs.{needs}
-use mathlib.Core.Path.{_≡_, refl, ap, _∙_}
-use denote.Ref.{now}
-use Rattle.words.specs.Fields.{fieldAt}
+use mathlib.Core.Path.{_∙_}
 use Rattle.fields.proofs.read_field.Statement.{statement}
 use Rattle.fields.proofs.read_field.Tie as tie
 

@@ -1,7 +1,8 @@
+-- After i turns the front holds the first i fields, and behind it stands what was there.
 use borrow.Author.Needs.{needs}
-use mathlib.Core.Path.{_≡_, refl, sym, ap, _∙_}
-use mathlib.Core.List.{List, map, _++_}
-use Prim.Native.Nat.{ℕ, _+_, _-_, _*_, _≤_, _<_, min}
+use mathlib.Core.Path.{_≡_, sym, _∙_}
+use mathlib.Core.List.{map, _++_}
+use Prim.Native.Nat.{_+_, _-_, _*_, _≤_, _<_}
 use native.Mathlib.Omega.{arith}
 use denote.Ref.{now}
 use lib.ListN.{length, take, drop, getD, length-map, length-set, List·getD-map}
@@ -10,11 +11,6 @@ use Rattle.laws.proofs.FieldLoops.{total-more, fill-more}
 use Rattle.fields.specs.Narrow.{narrow, fewest, readInto}
 use Rattle.fields.proofs.read_fields.Statement.{statement}
 use Rattle.fields.proofs.read_fields.Tie as tie
-use Rattle.fields.proofs.read_fields.Reads as reads
-use Rattle.fields.proofs.read_fields.Lts as lts
-use Rattle.fields.proofs.fewest_of.Reads as fewest-of-reads
-use Rattle.fields.proofs.narrowed.Reads as narrowed-reads
-use Rattle.fields.proofs.read_bits.Reads as read-bits-reads
 
 abbrev Inv-loop : tie.InvT-loop
 Inv-loop src at widths out₀ n p₀ i₀ out p i =
@@ -24,47 +20,36 @@ Inv-loop src at widths out₀ n p₀ i₀ out p i =
 abbrev μ-loop : tie.MeasureT-loop
 μ-loop src at widths out₀ n p₀ i₀ out p i = n - i
 
--- src/lib.rt:129:9
 fewest-of-requires : tie.Need-fewest-of-requires Inv-loop μ-loop
 fewest-of-requires c κs = search needs
 
--- src/lib.rt:132:5
 loop-holds : tie.Need-loop-holds Inv-loop μ-loop
 loop-holds c = search needs
 
--- src/lib.rt:133:26
 shared-slice-read-narrowed : tie.Need-shared-slice-read-narrowed Inv-loop μ-loop
 shared-slice-read-narrowed c = search needs
 
--- src/lib.rt:133:13
 narrowed-requires : tie.Need-narrowed-requires Inv-loop μ-loop
 narrowed-requires c κs = search needs
 
--- src/lib.rt:134:18
 read-bits-requires : tie.Need-read-bits-requires Inv-loop μ-loop
 read-bits-requires c κs = search needs
 
--- src/lib.rt:134:9
 mul-out : tie.Need-mul-out Inv-loop μ-loop
 mul-out c = search needs
 
--- src/lib.rt:134:9
 slice-write-out : tie.Need-slice-write-out Inv-loop μ-loop
 slice-write-out c = search needs
 
--- src/lib.rt:135:9
 add-p : tie.Need-add-p Inv-loop μ-loop
 add-p c = search needs
 
--- src/lib.rt:136:9
 add-i : tie.Need-add-i Inv-loop μ-loop
 add-i c = search needs
 
--- src/lib.rt:132:5
 loop-less : tie.Need-loop-less Inv-loop μ-loop
 loop-less c = search needs
 
--- src/lib.rt:132:5
 loop-again : tie.Need-loop-again Inv-loop μ-loop
 loop-again c =
     let a = c .before .before .before .before .before .before .before .before .before .args in
@@ -83,11 +68,9 @@ loop-again c =
       length-set (l .out) (l .i) (c .read-bits .result) ∙ l .inv .5,
     )
 
--- src/lib.rt:126:1
 same-length : tie.Need-same-length Inv-loop μ-loop
 same-length c = search needs
 
--- src/lib.rt:126:1
 returns : tie.Need-returns Inv-loop μ-loop
 unfolding readInto
 returns c =

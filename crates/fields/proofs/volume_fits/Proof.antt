@@ -1,5 +1,4 @@
 -- The two tests of the machine are the range that fits.
-use mathlib.Core.Path.{_∙_}
 use mir.Syntax.{w32}
 use mir.Facts.{toZ-ofZ}
 use Rattle.laws.proofs.Signed.{range-fits}

@@ -1,3 +1,4 @@
+-- Below half the span the bits are the number, and from there on the number less the span.
 use mathlib.Core.Path.{sym, _∙_}
 use Prim.Native.Nat.{_%_, _^_, _<_}
 use native.Mathlib.Omega.{arith}
@@ -7,29 +8,22 @@ use Rattle.laws.proofs.Signed.{signed-low, signed-high, code-high}
 use borrow.Author.Needs.{needs}
 use Rattle.fields.proofs.volume_of_bits.Statement.{statement}
 use Rattle.fields.proofs.volume_of_bits.Tie as tie
-use Rattle.fields.proofs.volume_of_bits.Reads as reads
-use Rattle.fields.proofs.volume_of_bits.Lts as lts
 
--- src/lib.rt:85:9
 cast-result : tie.Need-cast-result
 cast-result c = search needs
 
--- src/lib.rt:87:9
 cast-result-2 : tie.Need-cast-result-2
 cast-result-2 c = search needs
 
--- src/lib.rt:87:9
 low : (c : tie.Else1) → c .before .args .v % 268435456 < 2 ^ 28
 low c = omega arith
 
 sub-result : tie.Need-sub-result
 sub-result c = rw (code-high _ (low c)) (record { sfits = omega arith })
 
--- src/lib.rt:80:1
 returns : tie.Need-returns
 returns c = toZ-pos w32 _ (omega arith) ∙ sym (signed-low 27 _ (c .if1 .taken))
 
--- src/lib.rt:80:1
 returns-2 : tie.Need-returns-2
 returns-2 c =
     toZ-ofZ w32 _ (sub-result c) ∙ code-high _ (low c) ∙ sym (signed-high 27 _ (c .if1 .left) (low c))

@@ -1,3 +1,4 @@
+-- The bits from the weight up with the last of them made b, then the bits below: a byte again.
 use Prim.Native.Nat.{_+_, _*_, _/_, _%_, _<_}
 use native.Mathlib.Nat.{div-le-self}
 use native.Mathlib.Omega.{arith}
@@ -6,11 +7,7 @@ use Rattle.laws.proofs.Bits.{weight-pos, with-byte}
 use borrow.Author.Needs.{needs}
 use Rattle.fields.proofs.with_bit.Statement.{statement}
 use Rattle.fields.proofs.with_bit.Tie as tie
-use Rattle.fields.proofs.with_bit.Reads as reads
-use Rattle.fields.proofs.with_bit.Lts as lts
-use Rattle.fields.proofs.weight_of.Reads as weight-of-reads
 
--- src/lib.rt:48:9
 weight-of-requires : tie.Need-weight-of-requires
 weight-of-requires c κs = search needs
 
@@ -27,31 +24,24 @@ m-pos c = rw (c .weight-of .ensures) (weight-pos (c .before .args .p))
 div-result : tie.Need-div-result
 div-result c = m-pos c
 
--- src/lib.rt:50:7
 mul-result : tie.Need-mul-result
 mul-result c = omega (arith, div-le-self (c .before .args .x) (c .weight-of .result))
 
--- src/lib.rt:50:7
 add-result : tie.Need-add-result
 add-result c = omega (arith, div-le-self (c .before .args .x) (c .weight-of .result))
 
--- src/lib.rt:50:6
 mul-result-2 : tie.Need-mul-result-2
 mul-result-2 c = omega (arith, byte c)
 
--- src/lib.rt:50:32
 rem-result : tie.Need-rem-result
 rem-result c = m-pos c
 
--- src/lib.rt:50:6
 add-result-2 : tie.Need-add-result-2
 add-result-2 c = omega (arith, byte c)
 
--- src/lib.rt:50:5
 cast-result : tie.Need-cast-result
 cast-result c = omega (arith, byte c)
 
--- src/lib.rt:44:1
 returns : tie.Need-returns
 unfolding withBit
 returns c = rw (c .weight-of .ensures)

@@ -1,4 +1,5 @@
-use mathlib.Core.Path.{_≡_, refl, sym, ap, _∙_}
+-- After i turns the first i bits are those of the value without its last ones.
+use mathlib.Core.Path.{_≡_, refl, ap, _∙_}
 use mathlib.Core.List.{List}
 use lib.ListN.{length}
 use Prim.Native.Nat.{ℕ, _+_, _-_, _≤_, _/_, _%_, _^_}
@@ -8,9 +9,6 @@ use Rattle.words.specs.Fields.{setField, setBit}
 use Rattle.laws.proofs.Fields.{set-field-length, write-more, write-done}
 use Rattle.fields.proofs.write_bits.Statement.{statement}
 use Rattle.fields.proofs.write_bits.Tie as tie
-use Rattle.fields.proofs.write_bits.Reads as reads
-use Rattle.fields.proofs.write_bits.Lts as lts
-use Rattle.fields.proofs.put_bit.Reads as put-bit-reads
 
 abbrev Inv-loop : tie.InvT-loop
 Inv-loop dst₀ at width value i₀ dst i = (i ≤ width) × (dst ≡ setField dst₀ at i (value / 2 ^ (width - i)))
@@ -18,44 +16,34 @@ Inv-loop dst₀ at width value i₀ dst i = (i ≤ width) × (dst ≡ setField d
 abbrev μ-loop : tie.MeasureT-loop
 μ-loop dst₀ at width value i₀ dst i = width - i
 
--- src/lib.rt:70:5
 loop-holds : tie.Need-loop-holds Inv-loop μ-loop
 unfolding setField
 loop-holds c = (omega arith, refl)
 
--- src/lib.rt:71:18
 sub-k : tie.Need-sub-k Inv-loop μ-loop
 sub-k c = omega arith
 
--- src/lib.rt:71:18
 sub-k-2 : tie.Need-sub-k-2 Inv-loop μ-loop
 sub-k-2 c = omega arith
 
--- src/lib.rt:71:17
 cast-k : tie.Need-cast-k Inv-loop μ-loop
 cast-k c = omega arith
 
--- src/lib.rt:72:22
 add-put-bit : tie.Need-add-put-bit Inv-loop μ-loop
 add-put-bit c = omega arith
 
--- src/lib.rt:72:31
 shr-put-bit : tie.Need-shr-put-bit Inv-loop μ-loop
 shr-put-bit c = omega arith
 
--- src/lib.rt:72:9
 put-bit-requires : tie.Need-put-bit-requires Inv-loop μ-loop
 put-bit-requires c κs = omega arith
 
--- src/lib.rt:73:9
 add-i : tie.Need-add-i Inv-loop μ-loop
 add-i c = omega arith
 
--- src/lib.rt:70:5
 loop-less : tie.Need-loop-less Inv-loop μ-loop
 loop-less c = omega arith
 
--- src/lib.rt:70:5
 loop-again : tie.Need-loop-again Inv-loop μ-loop
 loop-again c =
     let a = c .before .before .before .before .before .before .before .args in
@@ -66,11 +54,9 @@ loop-again c =
           ∙ write-more (now (a .dst)) (a .at) (l .i) (a .width) (a .value) (omega arith),
     )
 
--- src/lib.rt:65:1
 same-length : tie.Need-same-length Inv-loop μ-loop
 same-length c = ap length (c .before .loop .inv .1) ∙ set-field-length _ _ _ _
 
--- src/lib.rt:65:1
 returns : tie.Need-returns Inv-loop μ-loop
 returns c = c .before .loop .inv .1 ∙ write-done _ _ _ _ _ (omega arith)
 

@@ -1,21 +1,17 @@
+-- After i turns the first i fields are written.
 use borrow.Author.Needs.{needs}
-use mathlib.Core.Path.{_≡_, refl, sym, ap, _∙_}
-use mathlib.Core.List.{List, map, _++_}
-use Prim.Native.Nat.{ℕ, _+_, _-_, _*_, _≤_, _<_, min}
+use mathlib.Core.Path.{_≡_, sym, ap, _∙_}
+use mathlib.Core.List.{map}
+use Prim.Native.Nat.{_+_, _-_, _*_, _≤_, _<_}
 use native.Mathlib.Omega.{arith}
 use denote.Ref.{now}
-use lib.ListN.{length, take, drop, getD, length-map, List·getD-map}
-use Rattle.words.specs.Fields.{total, writeAll, setField}
+use lib.ListN.{length, take, getD, length-map, List·getD-map}
+use Rattle.words.specs.Fields.{total, writeAll}
 use Rattle.laws.proofs.FieldLoops.{total-more, write-fields-more}
 use Rattle.laws.proofs.Layouts.{write-length}
 use Rattle.fields.specs.Narrow.{narrow, fewest, writeFrom}
 use Rattle.fields.proofs.write_fields.Statement.{statement}
 use Rattle.fields.proofs.write_fields.Tie as tie
-use Rattle.fields.proofs.write_fields.Reads as reads
-use Rattle.fields.proofs.write_fields.Lts as lts
-use Rattle.fields.proofs.fewest_of.Reads as fewest-of-reads
-use Rattle.fields.proofs.narrowed.Reads as narrowed-reads
-use Rattle.fields.proofs.write_bits.Reads as write-bits-reads
 
 abbrev Inv-loop : tie.InvT-loop
 Inv-loop dst₀ at widths values n p₀ i₀ dst p i =
@@ -25,47 +21,36 @@ Inv-loop dst₀ at widths values n p₀ i₀ dst p i =
 abbrev μ-loop : tie.MeasureT-loop
 μ-loop dst₀ at widths values n p₀ i₀ dst p i = n - i
 
--- src/lib.rt:144:9
 fewest-of-requires : tie.Need-fewest-of-requires Inv-loop μ-loop
 fewest-of-requires c κs = search needs
 
--- src/lib.rt:147:5
 loop-holds : tie.Need-loop-holds Inv-loop μ-loop
 loop-holds c = search needs
 
--- src/lib.rt:148:26
 shared-slice-read-narrowed : tie.Need-shared-slice-read-narrowed Inv-loop μ-loop
 shared-slice-read-narrowed c = search needs
 
--- src/lib.rt:148:13
 narrowed-requires : tie.Need-narrowed-requires Inv-loop μ-loop
 narrowed-requires c κs = search needs
 
--- src/lib.rt:149:31
 mul-write-bits : tie.Need-mul-write-bits Inv-loop μ-loop
 mul-write-bits c = search needs
 
--- src/lib.rt:149:31
 shared-slice-read-write-bits : tie.Need-shared-slice-read-write-bits Inv-loop μ-loop
 shared-slice-read-write-bits c = search needs
 
--- src/lib.rt:149:9
 write-bits-requires : tie.Need-write-bits-requires Inv-loop μ-loop
 write-bits-requires c κs = search needs
 
--- src/lib.rt:150:9
 add-p : tie.Need-add-p Inv-loop μ-loop
 add-p c = search needs
 
--- src/lib.rt:151:9
 add-i : tie.Need-add-i Inv-loop μ-loop
 add-i c = search needs
 
--- src/lib.rt:147:5
 loop-less : tie.Need-loop-less Inv-loop μ-loop
 loop-less c = search needs
 
--- src/lib.rt:147:5
 loop-again : tie.Need-loop-again Inv-loop μ-loop
 loop-again c =
     let a = c .before .before .before .before .before .before .before .before .before .before .before .before .before .args in
@@ -83,14 +68,12 @@ loop-again c =
           ∙ rw (l .inv .4, w, l .inv .2) (sym (write-fields-more us (l .i) inside (now (a .dst)) (a .at) (now (a .values)) (omega arith))),
     )
 
--- src/lib.rt:141:1
 same-length : tie.Need-same-length Inv-loop μ-loop
 same-length c =
     let a = c .before .before .before .before .before .before .args in
     let l = c .before .loop in
     ap length (l .inv .4) ∙ write-length (now (a .dst)) (a .at) (take (l .i) (map narrow (now (a .widths)))) (take (l .i) (now (a .values)))
 
--- src/lib.rt:141:1
 returns : tie.Need-returns Inv-loop μ-loop
 unfolding writeFrom
 returns c =

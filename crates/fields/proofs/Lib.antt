@@ -1,0 +1,2 @@
+-- That no two outcomes meet one promise.
+pub mod Unique
