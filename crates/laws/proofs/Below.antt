@@ -1,12 +1,12 @@
 -- Tests, searches and sums below a bound: what a loop meets at its next turn, and what they say of each number.
-use mathlib.Core.Bool.{Bool, true, false, _||_}
+use mathlib.Core.Bool.{Bool, true, false, _&&_, _||_, false≢true}
 use mathlib.Core.Path.{_≡_, refl, sym, ap, ap₂, _∙_}
-use Prim.Native.Nat.{ℕ, zero, suc, _+_, _≤_, _<_}
-use native.Mathlib.Nat.{not-suc-le-zero}
+use Prim.Native.Nat.{ℕ, zero, suc, _+_, _*_, _≤_, _<_}
+use native.Mathlib.Nat.{not-suc-le-zero, add-zero, add-suc, zero-mul, suc-mul}
 use native.Mathlib.Numerals.{add-one}
 use native.Mathlib.Omega.{arith}
-use Rattle.words.specs.Below.{someBelow, firstBelow, sumBelow}
-use Rattle.laws.proofs.Cases.{on, by-eq, or-true}
+use Rattle.words.specs.Below.{someBelow, everyBelow, firstBelow, sumBelow}
+use Rattle.laws.proofs.Cases.{on, by-eq, and-left, and-right, and-true, and-assoc, or-true, is-false}
 
 -- ---- some, and every
 
@@ -38,6 +38,54 @@ pub some-ext : (n : ℕ) (f g : ℕ → Bool) → ((k : ℕ) → k < n → f k �
 unfolding someBelow
 some-ext zero f g h = refl
 some-ext (suc n) f g h = ap₂ _||_ (some-ext n f g (λ k l. h k (omega arith))) (h n (omega arith))
+
+pub every-none : (f : ℕ → Bool) → everyBelow 0 f ≡ true
+unfolding everyBelow
+every-none f = refl
+
+pub every-more : (n : ℕ) (f : ℕ → Bool) → everyBelow (n + 1) f ≡ everyBelow n f && f n
+unfolding everyBelow
+every-more n f = rw add-one
+
+pub every-ext : (n : ℕ) (f g : ℕ → Bool) → ((k : ℕ) → k < n → f k ≡ g k) → everyBelow n f ≡ everyBelow n g
+unfolding everyBelow
+every-ext zero f g h = refl
+every-ext (suc n) f g h = ap₂ _&&_ (every-ext n f g (λ k l. h k (omega arith))) (h n (omega arith))
+
+pub every-at : (n : ℕ) (f : ℕ → Bool) → everyBelow n f ≡ true → (k : ℕ) → k < n → f k ≡ true
+unfolding everyBelow
+every-at zero f e k h = absurd (not-suc-le-zero h)
+every-at (suc n) f e k h =
+    by-eq k n
+    (λ q. rw q (and-right (everyBelow n f) (f n) e))
+    (λ q. every-at n f (and-left (everyBelow n f) (f n) e) k (omega arith))
+
+pub at-every : (n : ℕ) (f : ℕ → Bool) → ((k : ℕ) → k < n → f k ≡ true) → everyBelow n f ≡ true
+unfolding everyBelow
+at-every zero f h = refl
+at-every (suc n) f h = rw (at-every n f (λ k l. h k (omega arith)), h n (omega arith))
+
+-- one number that fails is enough
+pub every-miss : (n : ℕ) (f : ℕ → Bool) (k : ℕ) → k < n → f k ≡ false → everyBelow n f ≡ false
+every-miss n f k h e = is-false (everyBelow n f) (λ q. false≢true (sym e ∙ every-at n f q k h))
+
+-- a longer run is the shorter one and what follows it
+pub every-add : (n m : ℕ) (f : ℕ → Bool) → everyBelow (n + m) f ≡ everyBelow n f && everyBelow m (λ (k : ℕ). f (n + k))
+unfolding everyBelow
+every-add n zero f = rw add-zero (sym (and-true (everyBelow n f)))
+every-add n (suc m) f =
+    ap (λ (k : ℕ). everyBelow k f) (add-suc n m)
+    ∙ ap (λ (b : Bool). b && f (n + m)) (every-add n m f)
+    ∙ and-assoc (everyBelow n f) (everyBelow m (λ (k : ℕ). f (n + k))) (f (n + m))
+
+-- n runs of m are one run of n * m
+pub every-runs : (n m : ℕ) (f : ℕ → Bool) → everyBelow (n * m) f ≡ everyBelow n (λ (a : ℕ). everyBelow m (λ (b : ℕ). f (a * m + b)))
+unfolding everyBelow
+every-runs zero m f = rw (zero-mul m)
+every-runs (suc n) m f =
+    ap (λ (k : ℕ). everyBelow k f) (suc-mul n m)
+    ∙ every-add (n * m) m f
+    ∙ ap (λ (b : Bool). b && everyBelow m (λ (k : ℕ). f (n * m + k))) (every-runs n m f)
 
 -- ---- the first
 

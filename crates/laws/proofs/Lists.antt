@@ -12,7 +12,9 @@ use lib.ListN.{length, getD, set, length-set, replicate, length-replicate, getD-
 use lib.Seq.{ext-getD, getD-set-same, getD-set-other}
 use borrow.Author.Tests.{lt-ltb, le-ltb, eqb-true, eq-eqb, ne-eqb}
 use Rattle.words.specs.Lists.{any, everyFrom, mapFrom, everyAt, mapAt, keep, last, find}
-use Rattle.laws.proofs.Cases.{on, by-lt, by-eq, and-left, and-right, or-left, or-right}
+use Rattle.words.specs.Below.{everyBelow}
+use Rattle.laws.proofs.Below.{every-at, at-every}
+use Rattle.laws.proofs.Cases.{same-test, on, by-lt, by-eq, and-left, and-right, or-left, or-right}
 
 module _ {A : Type 0} where
   -- ---- a list rewritten at each place
@@ -69,6 +71,13 @@ module _ {A : Type 0} where
   pub at-everyAt : (f : ℕ → A → Bool) (l : List A) (d : A) → ((j : ℕ) → j < length l → f j (getD l j d) ≡ true) → everyAt f l ≡ true
   unfolding everyAt
   at-everyAt f l d h = at-everyFrom 0 f l d (λ j k. ap (λ (n : ℕ). f n (getD l j d)) (zero-add j) ∙ h j k)
+
+  -- the same as a test of every place below the length
+  pub everyAt-below : (f : ℕ → A → Bool) (l : List A) (d : A) → everyAt f l ≡ everyBelow (length l) (λ (j : ℕ). f j (getD l j d))
+  everyAt-below f l d =
+      same-test (everyAt f l) (everyBelow (length l) (λ (j : ℕ). f j (getD l j d)))
+      (λ e. at-every (length l) (λ (j : ℕ). f j (getD l j d)) (everyAt-at f l d e))
+      (λ e. at-everyAt f l d (every-at (length l) (λ (j : ℕ). f j (getD l j d)) e))
 
   -- ---- no element passes
 

@@ -3,7 +3,7 @@
 use mathlib.Core.Bool.{true, _&&_}
 use mathlib.Core.List.{List}
 use mathlib.Core.Path.{_≡_}
-use Prim.Native.Nat.{ℕ, suc, _+_, _-_, _≤_, _<_, max}
+use Prim.Native.Nat.{ℕ, zero, suc, _+_, _-_, _*_, _≤_, _<_, max}
 use native.Mathlib.Omega.{arith}
 use lib.Dec.{leb, ltb, eqb}
 use lib.ListN.{length, getD}
@@ -23,6 +23,12 @@ periods-le codes d =
     on (eqb c 0) (λ e. rw e (omega arith)) (λ e. rw e
     (on (eqb c 1) (λ q. rw q (omega arith)) (λ q. rw q
     (on (eqb c 2) (λ w. rw w (omega arith)) (λ w. rw w (omega arith))))))
+
+-- and d days at most 50 each
+pub gates-le : (codes : List ℕ) (d : ℕ) → gatesBefore codes d ≤ 50 * d
+unfolding gatesBefore sumBelow
+gates-le codes zero = omega arith
+gates-le codes (suc d) = omega (arith, gates-le codes d, periods-le codes d)
 
 -- what a period of a day is
 pub record IsPeriod (codes : List ℕ) (d period : ℕ) : Type 0 where
