@@ -1,12 +1,10 @@
 -- The code of a day that a clock holds, and the length of its array of codes.
 use mathlib.Core.Path.{_≡_, _∙_}
 use Prim.Native.Nat.{ℕ, _≤_, _<_}
-use native.Mathlib.Omega.{arith}
 use lib.ListN.{length, getD, length-map, List·getD-eq-default}
 use denote.Laws.{Is}
 use denote.Struct.Declared.{row}
 use denote.Struct.Laws.{owed, vals}
-use Rattle.words.specs.Lists.{build}
 use Rattle.laws.proofs.Builds.{getD-build, getD-build-past}
 use Rattle.laws.proofs.Cases.{by-lt}
 use Rattle.meaning.specs.Time.{periodsOfCode, periodsAt}

@@ -1,5 +1,5 @@
 -- Splitting on a test with its equation kept, and tests that hold together.
-use mathlib.Core.Bool.{Bool, true, false, cond, _&&_, _||_, true≢false}
+use mathlib.Core.Bool.{Bool, true, false, not, cond, _&&_, _||_, true≢false}
 use mathlib.Core.Logic.{_≢_}
 use mathlib.Core.Path.{_≡_, refl, sym, _∙_}
 use Prim.Native.Nat.{ℕ, _≤_, _<_}
@@ -65,6 +65,10 @@ and-assoc false b c = refl
 pub or-assoc : (a b c : Bool) → a || b || c ≡ a || (b || c)
 or-assoc true b c = refl
 or-assoc false b c = refl
+
+pub not-not : (b : Bool) → not (not b) ≡ b
+not-not true = refl
+not-not false = refl
 
 -- a choice of the same
 pub same-either : {A : Type 0} (t : Bool) (a : A) → cond t a a ≡ a

@@ -1,6 +1,5 @@
 -- A day before the first is none of the book, and from there the difference counts.
 use borrow.Author.Needs.{needs}
-use native.Mathlib.Omega.{arith}
 use borrow.Author.Tests.{le-leb, lt-leb}
 use Rattle.laws.proofs.Builds.{length-build}
 use Rattle.clock.proofs.has_day.Statement.{statement}

@@ -1,6 +1,5 @@
 -- The two tests as they stand.
 use borrow.Author.Needs.{needs}
-use Rattle.words.specs.Tests.{_≤?_}
 use Rattle.laws.proofs.Builds.{length-build}
 use Rattle.meaning.specs.Time.{isPeriodAt}
 use Rattle.clock.proofs.is_period_at.Statement.{statement}

@@ -1,5 +1,4 @@
 -- Each arm is a code.
-use borrow.Author.Needs.{needs}
 use borrow.Author.Tests.{ne-eqb}
 use Rattle.meaning.specs.Time.{periodsOfCode}
 use Rattle.clock.proofs.periods_of.Statement.{statement}

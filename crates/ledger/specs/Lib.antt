@@ -1,0 +1,2 @@
+-- The parts that the functions of `ledger` are proved by.
+pub mod Parts

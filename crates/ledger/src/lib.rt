@@ -1,0 +1,150 @@
+// The lent tables of a book: what a place holds, the identifiers that are held, and the soundness of both (meaning, Ledgers.antt and Soundness.antt).
+ghost use mathlib.Core.Bool.{not, _||_};
+ghost use mathlib.Core.Path.{_≡_};
+ghost use Prim.Native.Nat.{ℕ, suc, _+_, _*_, _≤_, _<_};
+ghost use lib.IntN.{pos};
+ghost use lib.ListN.{length, getD};
+ghost use Rattle.words.specs.Below.{everyBelow};
+ghost use Rattle.words.specs.Lists.{find};
+ghost use Rattle.meaning.specs.Ledgers.{contracts, stands};
+ghost use Rattle.meaning.specs.Soundness.{slotRight, heldRight};
+ghost use Rattle.ledger.specs.Parts.{blank, right, rowRight, daysRight, SlotInside, sideRight};
+
+// "the mark -2,147,483,648 means nothing stands"
+pub const MARK: i32 = -2147483648;
+
+pub const LEAST_KWH: i32 = -99999999;
+
+pub const MOST_KWH: i32 = 99999999;
+
+const PLACES_A_DAY: usize = 50;
+
+const REFERENCES: u32 = 65536;
+
+// A place states something when it does not hold the mark.
+pub fn states(v: i32) -> bool
+    ensures { λ r. ⌜ r ≡ stands contracts v ⌝ }
+{
+    v != MARK
+}
+
+// The mark, or a volume in range. No branch, so that a scan runs on vectors.
+fn is_right(v: i32) -> bool
+    ensures { λ r. ⌜ r ≡ right v ⌝ }
+{
+    (v == MARK) | ((LEAST_KWH <= v) & (v <= MOST_KWH))
+}
+
+// Nothing stands in any place of the part.
+pub fn all_blank(part: &[i32]) -> bool
+    ensures { λ r. ⌜ r ≡ everyBelow (length (now (part .entry))) (λ (k : ℕ). blank (getD (now (part .entry)) k (pos 0))) ⌝ }
+{
+    let mut ok = true;
+    for k in 0..part.len() {
+        ok = ok & (part[k] == MARK);
+    }
+    ok
+}
+
+// Each place of the part holds the mark or a volume in range.
+pub fn all_right(part: &[i32]) -> bool
+    ensures { λ r. ⌜ r ≡ everyBelow (length (now (part .entry))) (λ (k : ℕ). right (getD (now (part .entry)) k (pos 0))) ⌝ }
+{
+    let mut ok = true;
+    for k in 0..part.len() {
+        let v = part[k];
+        ok = ok & is_right(v);
+    }
+    ok
+}
+
+// One day of a slot: a held slot's periods are right, and all else is blank.
+fn row_right(side: &[i32], base: usize, periods: usize, held: bool) -> bool
+    requires { ⌜ (periods ≤ 50) × (base + 50 ≤ length (now side)) ⌝ }
+    ensures { λ r. ⌜ r ≡ rowRight (now (side .entry)) base periods held ⌝ }
+{
+    let end = base + PLACES_A_DAY;
+    if held {
+        let past = base + periods;
+        return all_right(&side[base..past]) & all_blank(&side[past..end]);
+    }
+    all_blank(&side[base..end])
+}
+
+// The first slot whose entry is this one; the number of slots where none is.
+pub fn slot_with(held: &[u32], entry: u32) -> usize
+    ensures { λ r. ⌜ r ≡ find entry (now (held .entry)) ⌝ }
+{
+    let mut k: usize = 0;
+    while k < held.len() {
+        if held[k] == entry {
+            return k;
+        }
+        k += 1;
+    }
+    k
+}
+
+// The slot is unheld, or its identifier names a known originator and stands in no slot before.
+fn slot_right(held: &[u32], known: usize, k: usize, entry: u32) -> bool
+    ensures { λ r. ⌜ r ≡ slotRight known (now (held .entry)) k entry ⌝ }
+{
+    if entry == 0 {
+        return true;
+    }
+    let originator = ((entry - 1) / REFERENCES) as usize;
+    let first = slot_with(held, entry);
+    (originator < known) & (first == k)
+}
+
+// Held identifiers differ and name known originators.
+pub fn held_right(held: &[u32], known: usize) -> bool
+    ensures { λ r. ⌜ r ≡ heldRight known (now (held .entry)) ⌝ }
+{
+    let mut ok = true;
+    for k in 0..held.len() {
+        let entry = held[k];
+        ok = ok & slot_right(held, known, k, entry);
+    }
+    ok
+}
+
+// Every day of a slot.
+fn days_right(side: &[i32], slot: usize, held: bool, c: clock::Clock) -> bool
+    requires { ⌜ SlotInside (now side) slot (c .days) ⌝ }
+    ensures { λ r. ⌜ r ≡ daysRight (now (side .entry)) slot held c ⌝ }
+{
+    let mut ok = true;
+    let mut d: u8 = 0;
+    while d < c.days {
+        let base = (slot * c.days as usize + d as usize) * PLACES_A_DAY;
+        let periods = clock::periods_at(c, d) as usize;
+        ok = ok & row_right(side, base, periods, held);
+        d += 1;
+    }
+    ok
+}
+
+// One side's table: "each volume is in range or the mark; unheld slots and places past a day's length hold the mark".
+pub fn side_right(side: &[i32], held: &[u32], c: clock::Clock) -> bool
+    ensures { λ r. ⌜ r ≡ sideRight (now (side .entry)) (now (held .entry)) c ⌝ }
+{
+    let days = c.days as usize;
+    if 8 < days {
+        return false;
+    }
+    if 256 < held.len() {
+        return false;
+    }
+    if side.len() != held.len() * days * PLACES_A_DAY {
+        return false;
+    }
+    let mut ok = true;
+    let mut s: usize = 0;
+    while s < held.len() {
+        let entry = held[s];
+        ok = ok & days_right(side, s, entry != 0, c);
+        s += 1;
+    }
+    ok
+}
