@@ -69,6 +69,13 @@ at-every (suc n) f h = rw (at-every n f (λ k l. h k (omega arith)), h n (omega 
 pub every-miss : (n : ℕ) (f : ℕ → Bool) (k : ℕ) → k < n → f k ≡ false → everyBelow n f ≡ false
 every-miss n f k h e = is-false (everyBelow n f) (λ q. false≢true (sym e ∙ every-at n f q k h))
 
+-- the first apart from the others
+pub every-front : (n : ℕ) (f : ℕ → Bool) → everyBelow (suc n) f ≡ f 0 && everyBelow n (λ (k : ℕ). f (suc k))
+unfolding everyBelow
+every-front zero f = sym (and-true (f 0))
+every-front (suc n) f =
+    ap (λ (t : Bool). t && f (suc n)) (every-front n f) ∙ and-assoc (f 0) (everyBelow n (λ (k : ℕ). f (suc k))) (f (suc n))
+
 -- a longer run is the shorter one and what follows it
 pub every-add : (n m : ℕ) (f : ℕ → Bool) → everyBelow (n + m) f ≡ everyBelow n f && everyBelow m (λ (k : ℕ). f (n + k))
 unfolding everyBelow

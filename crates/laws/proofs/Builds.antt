@@ -1,16 +1,17 @@
 -- A list made of a function of the place, and the array that a loop fills from the front.
-use mathlib.Core.Bool.{Bool, true, false, cond}
-use mathlib.Core.List.{List, [], _∷_}
-use mathlib.Core.Logic.{_≢_}
+use mathlib.Core.Bool.{Bool, cond, _&&_}
+use mathlib.Core.List.{List, [], _∷_, _++_}
 use mathlib.Core.Path.{_≡_, refl, sym, ap, _∙_}
-use Prim.Native.Nat.{ℕ, zero, suc, _+_, _≤_, _<_}
+use Prim.Native.Nat.{ℕ, zero, suc, _+_, _≤_, _<_, min}
 use native.Mathlib.Nat.{le-of-suc-le-suc, not-suc-le-zero}
 use native.Mathlib.Omega.{arith}
 use lib.Dec.{ltb}
 use lib.ListN.{length, getD, set, replicate, length-set, List·getD-eq-default}
 use lib.Seq.{ext-getD, getD-set-same, getD-set-other}
 use borrow.Author.Tests.{lt-ltb, le-ltb}
-use Rattle.words.specs.Lists.{build}
+use Rattle.words.specs.Below.{everyBelow}
+use Rattle.words.specs.Lists.{every, build}
+use Rattle.laws.proofs.Below.{every-none, every-front}
 use Rattle.laws.proofs.Cases.{by-lt, by-eq}
 
 module _ {A : Type 0} where
@@ -44,6 +45,19 @@ module _ {A : Type 0} where
   unfolding build
   build-all zero z = refl
   build-all (suc n) z = ap {B = List A} (λ l. z ∷ l) (build-all n z)
+
+  -- one element more, at the end
+  pub build-more : (n : ℕ) (f : ℕ → A) → build (suc n) f ≡ build n f ++ (f n ∷ [])
+  unfolding build
+  build-more zero f = refl
+  build-more (suc n) f = ap {B = List A} (λ l. f 0 ∷ l) (build-more n (λ (k : ℕ). f (suc k)))
+
+  -- a test of every element
+  pub every-build : (g : A → Bool) (n : ℕ) (f : ℕ → A) → every g (build n f) ≡ everyBelow n (λ (k : ℕ). g (f k))
+  unfolding every build
+  every-build g zero f = sym (every-none (λ (k : ℕ). g (f k)))
+  every-build g (suc n) f =
+      ap (λ (t : Bool). g (f 0) && t) (every-build g n (λ (k : ℕ). f (suc k))) ∙ sym (every-front n (λ (k : ℕ). g (f k)))
 
 -- n elements of which a loop has made those below i f k, and those from i on are still z
 unfoldable pub filled : {A : Type 0} → ℕ → (ℕ → A) → A → ℕ → List A
@@ -82,6 +96,16 @@ module _ {A : Type 0} (n : ℕ) (f : ℕ → A) (z : A) where
   pub filled-all : (i : ℕ) → n ≤ i → filled n f z i ≡ build n f
   unfolding filled
   filled-all i h = build-same n (λ (k : ℕ). cond (ltb k i) (f k) z) f (λ k l. rw (lt-ltb k i (omega arith)))
+
+-- no further than its end
+pub filled-capped : {A : Type 0} (n : ℕ) (f : ℕ → A) (z : A) (i : ℕ) → filled n f z (min i n) ≡ filled n f z i
+unfolding filled
+filled-capped n f z i =
+    build-same n (λ (k : ℕ). cond (ltb k (min i n)) (f k) z) (λ (k : ℕ). cond (ltb k i) (f k) z)
+    (λ k h.
+    by-lt k i
+    (λ l. rw (lt-ltb k i l, lt-ltb k (min i n) (omega arith)))
+    (λ l. rw (le-ltb k i l, le-ltb k (min i n) (omega arith))))
 
 -- where a list of m elements is read with its default behind, that is the array filled so far
 pub filled-list : {A B : Type 0} (n m : ℕ) (g : A → B) (d : A) (l : List A) → length l ≡ m

@@ -4,6 +4,7 @@ pub mod Rules
 pub mod Below
 pub mod Lists
 pub mod Builds
+pub mod Stores
 pub mod Runs
 pub mod Whole
 pub mod Parts

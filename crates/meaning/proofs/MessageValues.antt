@@ -24,11 +24,11 @@ identifier-back : (i : ℕ) → identifierOf (originatorOf i) (referenceOf i) �
 unfolding originatorOf referenceOf
 identifier-back i = div-add-mod' i 65536
 
-originator-again : (o r : ℕ) → r < 65536 → originatorOf (identifierOf o r) ≡ o
+pub originator-again : (o r : ℕ) → r < 65536 → originatorOf (identifierOf o r) ≡ o
 unfolding originatorOf
 originator-again o r h = digits-div o h
 
-reference-again : (o r : ℕ) → r < 65536 → referenceOf (identifierOf o r) ≡ r
+pub reference-again : (o r : ℕ) → r < 65536 → referenceOf (identifierOf o r) ≡ r
 unfolding referenceOf
 reference-again o r h = digits-mod o h
 

@@ -1,0 +1,8 @@
+-- Laws that the functions' proofs share; the round trips in the code's terms; and that no two outcomes meet one promise.
+pub mod LayoutSizes
+pub mod ReadParts
+pub mod WriteParts
+pub mod StructRanges
+pub mod EitherWay
+pub mod UniqueReading
+pub mod UniqueWriting

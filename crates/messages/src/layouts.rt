@@ -1,0 +1,72 @@
+// The layouts' sizes: bits, bytes and padding of a message of a kind and a number of entries.
+ghost use mathlib.Core.Path.{_≡_};
+ghost use Rattle.words.specs.Fields.{total, bytesFor, padding};
+ghost use Rattle.meaning.specs.PackedMessages.{layoutFor};
+ghost use Prim.Native.Nat.{min};
+ghost use Rattle.messages.specs.Parts.{kindRefusal};
+
+const KIND_THREE: u8 = 20;
+
+pub const MOST_ENTRIES: u8 = 50;
+
+// "Notification: kind 1 (2), authorisation 6, agent 8, key 16, originator 6, reference 16, first day 16, last day 16, count 6"
+pub const NOTIFICATION_WIDTHS: [u8; 9] = [2, 6, 8, 16, 6, 16, 16, 16, 6];
+// "Nullification: kind 2 (2), account 6, account 6, first day 16"
+pub const NULLIFICATION_WIDTHS: [u8; 4] = [2, 6, 6, 16];
+
+pub const NOTIFICATION_BITS: u32 = 92;
+
+pub const ENTRY_BITS: u32 = 34;
+
+const NULLIFICATION_BITS: u32 = 30;
+
+const KIND_BITS: u32 = 2;
+
+// The fourth kind is refused by its own number.
+pub fn kind_refusal(kind: u8) -> u8
+    ensures { λ r. ⌜ r ≡ kindRefusal kind ⌝ }
+{
+    match kind {
+        0 => 0,
+        1 => 0,
+        2 => 0,
+        _ => KIND_THREE,
+    }
+}
+
+// A number of entries, at most 50.
+pub fn at_most_fifty(count: u8) -> u8
+    ensures { λ r. ⌜ r ≡ min count 50 ⌝ }
+{
+    if count < MOST_ENTRIES {
+        count
+    } else {
+        MOST_ENTRIES
+    }
+}
+
+// The bits of a message of a kind and a number of entries.
+pub fn bits_for(kind: u8, count: u8) -> u32
+    ensures { λ r. ⌜ r ≡ total (layoutFor kind count) ⌝ }
+{
+    match kind {
+        1 => NOTIFICATION_BITS + ENTRY_BITS * count as u32,
+        2 => NULLIFICATION_BITS,
+        _ => KIND_BITS,
+    }
+}
+
+// The bytes that it takes.
+pub fn bytes_for(kind: u8, count: u8) -> usize
+    ensures { λ r. ⌜ r ≡ bytesFor (layoutFor kind count) ⌝ }
+{
+    ((bits_for(kind, count) + 7) / 8) as usize
+}
+
+// The bits that are left over in the last byte.
+pub fn padding_for(kind: u8, count: u8) -> u8
+    ensures { λ r. ⌜ r ≡ padding (layoutFor kind count) ⌝ }
+{
+    let bits = bits_for(kind, count);
+    ((bits + 7) / 8 * 8 - bits) as u8
+}

@@ -1,0 +1,55 @@
+// Messages by value, read from packed bytes and written to them (meaning, PackedMessages.antt).
+pub mod layouts; // layouts.rt: the sizes of messages
+pub mod reading; // reading.rt: bytes to a message
+pub mod writing; // writing.rt: a message to bytes
+
+// One period and its volume in whole kWh.
+#[repr(C)]
+pub struct Entry {
+    pub period: u8,
+    pub volume: i32,
+}
+
+// `authorisation` is the number of the one that it is sent under; the identifier is originator and reference. Entries past `count` are no part of it.
+#[repr(C)]
+pub struct Notification {
+    pub authorisation: u8,
+    pub agent: u8,
+    pub key: u16,
+    pub originator: u8,
+    pub reference: u16,
+    pub first: u16,
+    pub last: u16,
+    pub count: u8,
+    pub entries: [Entry; 50],
+}
+
+#[repr(C)]
+pub struct Nullification {
+    pub account: u8,
+    pub other: u8,
+    pub first: u16,
+}
+
+// Kind 0 is a gate, 1 a notification, 2 a nullification. What a kind lacks is no part of it, and reads as zero.
+#[repr(C)]
+pub struct Message {
+    pub kind: u8,
+    pub notification: Notification,
+    pub nullification: Nullification,
+}
+
+// With a refusal the length is 0 and the message all zero.
+#[repr(C)]
+pub struct MessageRead {
+    pub answer: u8,
+    pub length: usize,
+    pub message: Message,
+}
+
+// With a refusal the length is 0.
+#[repr(C)]
+pub struct MessageWritten {
+    pub answer: u8,
+    pub length: usize,
+}
