@@ -1,12 +1,13 @@
 // The lent tables of a book: what a place holds, the identifiers that are held, and the soundness of both (meaning, Ledgers.antt and Soundness.antt).
 ghost use mathlib.Core.Bool.{not, _||_};
 ghost use mathlib.Core.Path.{_≡_};
-ghost use Prim.Native.Nat.{ℕ, suc, _+_, _*_, _≤_, _<_};
+ghost use Prim.Native.Nat.{ℕ, _+_, _-_, _≤_, min};
 ghost use lib.IntN.{pos};
-ghost use lib.ListN.{length, getD};
+ghost use lib.ListN.{length, getD, replicate};
+ghost use lib.Seq.{sets};
 ghost use Rattle.words.specs.Below.{everyBelow};
 ghost use Rattle.words.specs.Lists.{find};
-ghost use Rattle.meaning.specs.Ledgers.{contracts, stands};
+ghost use Rattle.meaning.specs.Ledgers.{contracts, stands, theMark};
 ghost use Rattle.meaning.specs.Soundness.{slotRight, heldRight};
 ghost use Rattle.ledger.specs.Parts.{blank, right, rowRight, daysRight, SlotInside, sideRight};
 
@@ -147,4 +148,43 @@ pub fn side_right(side: &[i32], held: &[u32], c: clock::Clock) -> bool
         s += 1;
     }
     ok
+}
+
+// How many of `count` places from `at` on are inside a table of this length.
+fn inside(length: usize, at: usize, count: usize) -> usize
+    ensures { λ r. ⌜ r ≡ min count (length - at) ⌝ }
+{
+    if length < at {
+        return 0;
+    }
+    let left = length - at;
+    if count < left {
+        return count;
+    }
+    left
+}
+
+// The values stored from place `at` on, one after the other; a place past the end stores nothing.
+pub fn store_run(side: &mut [i32], at: usize, values: &[i32])
+    ensures { λ r. ⌜ now (side .exit) ≡ sets (now (side .entry)) at (now (values .entry)) ⌝ }
+{
+    let n = inside(side.len(), at, values.len());
+    let mut k: usize = 0;
+    while k < n {
+        let v = values[k];
+        side[at + k] = v;
+        k += 1;
+    }
+}
+
+// The mark stored at `count` places from place `at` on; a place past the end stores nothing.
+pub fn blank_run(side: &mut [i32], at: usize, count: usize)
+    ensures { λ r. ⌜ now (side .exit) ≡ sets (now (side .entry)) at (replicate count theMark) ⌝ }
+{
+    let n = inside(side.len(), at, count);
+    let mut k: usize = 0;
+    while k < n {
+        side[at + k] = MARK;
+        k += 1;
+    }
 }
