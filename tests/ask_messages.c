@@ -117,7 +117,7 @@ static void compare(const uint8_t *bytes, size_t length, int every_field) {
     size_t taken = ghendufika_message_length(bytes, length);
     if (taken != s.length) differ("length", bytes, length, (long long)taken, (long long)s.length);
     uint32_t step = every_field ? 1 : 17;
-    for (uint32_t field = 0; field < 260; field += step) {
+    for (uint32_t field = 0; field < 260; field += field < 11 ? 1 : step) {
         int64_t ours = ghendufika_message_field(bytes, length, field), theirs = field_of(bytes, s, field);
         if (ours != theirs) differ("field", bytes, length, ours, theirs);
         asked++;
@@ -156,8 +156,7 @@ static void nullify_0_and_1_from_day_100(void) {
 /* P1: agent 7 under authorisation 0 with key 500 gives -5000 for period 1 of day 100, under 0/1 */
 static void agent_7_sold_period_1(void) {
     uint8_t bytes[16] = {0x40, 0x07, 0x01, 0xF4, 0x00, 0x00, 0x04, 0x01, 0x90, 0x01, 0x90, 0x10, 0, 0, 0, 0};
-    uint32_t volume = (uint32_t)-5000 & 0x0FFFFFFFu; /* kind .. count take 92 bits; then 6 bits 000001 and these 28 */
-    bytes[11] |= 0x00;                                /* 4 bits of the period */
+    uint32_t volume = (uint32_t)-5000 & 0x0FFFFFFFu; /* the head takes 92 bits; then 6 bits, 000001, and these 28 */
     bytes[12] = (uint8_t)(0x40 | volume >> 22);
     bytes[13] = (uint8_t)(volume >> 14);
     bytes[14] = (uint8_t)(volume >> 6);

@@ -3,6 +3,7 @@ use mathlib.Core.List.{List}
 use mathlib.Core.Path.{_≡_, sym, _∙_}
 use Prim.Native.Nat.{ℕ}
 use Rattle.words.specs.Rules.{answer}
+use Rattle.laws.proofs.Cases.{one-outcome}
 use Rattle.meaning.specs.PackedMessages.{writingRules, writeMessage}
 use Rattle.messages.specs.Structs.{messageOf, messageWritten}
 use Rattle.messages.specs.declared.Message.{Message}
@@ -16,7 +17,7 @@ abbrev pub WritesMessage : Message → List ℕ → MessageWritten → List ℕ 
 WritesMessage m out r left = (r ≡ messageWritten (writeMessage (messageOf m) out)) × (left ≡ writeMessage (messageOf m) out .out)
 
 pub unique-writing-refusal : (m : Message) (room r s : ℕ) → RefusesWriting m room r → RefusesWriting m room s → r ≡ s
-unique-writing-refusal m room r s p q = p ∙ sym q
+unique-writing-refusal m room r s = one-outcome
 
 pub unique-write-message : (m : Message) (out : List ℕ) (r s : MessageWritten) (left end : List ℕ)
     → WritesMessage m out r left → WritesMessage m out s end → (r ≡ s) × (left ≡ end)

@@ -1,26 +1,27 @@
 -- No two different outcomes satisfy one promise of reading: each promise is one equation for the result.
 use mathlib.Core.List.{List}
-use mathlib.Core.Path.{_≡_, sym, _∙_}
+use mathlib.Core.Path.{_≡_}
 use Prim.Native.Nat.{ℕ}
 use Rattle.words.specs.Rules.{answer}
 use Rattle.words.specs.Fields.{bytesFor, padding, total}
+use Rattle.laws.proofs.Cases.{one-outcome}
 use Rattle.meaning.specs.PackedSetups.{readSetup, setupLayoutFor, setupReadingRules}
 use Rattle.setups.specs.declared.SetupRead.{SetupRead}
 use Rattle.setups.specs.Structs.{setupRead}
 
 pub unique-bits-for : (days rows r r′ : ℕ) → r ≡ total (setupLayoutFor days rows) → r′ ≡ total (setupLayoutFor days rows) → r ≡ r′
-unique-bits-for days rows r r′ p q = p ∙ sym q
+unique-bits-for days rows r r′ = one-outcome
 
 pub unique-bytes-for : (days rows r r′ : ℕ) → r ≡ bytesFor (setupLayoutFor days rows) → r′ ≡ bytesFor (setupLayoutFor days rows) → r ≡ r′
-unique-bytes-for days rows r r′ p q = p ∙ sym q
+unique-bytes-for days rows r r′ = one-outcome
 
 pub unique-padding-for : (days rows r r′ : ℕ) → r ≡ padding (setupLayoutFor days rows) → r′ ≡ padding (setupLayoutFor days rows) → r ≡ r′
-unique-padding-for days rows r r′ p q = p ∙ sym q
+unique-padding-for days rows r r′ = one-outcome
 
 pub unique-reading-refusal : (s : List ℕ) (slots lent1 lent2 r r′ : ℕ)
     → r ≡ answer (setupReadingRules s slots lent1 lent2) → r′ ≡ answer (setupReadingRules s slots lent1 lent2) → r ≡ r′
-unique-reading-refusal s slots lent1 lent2 r r′ p q = p ∙ sym q
+unique-reading-refusal s slots lent1 lent2 r r′ = one-outcome
 
 pub unique-read-setup : (s : List ℕ) (slots lent1 lent2 : ℕ) (r r′ : SetupRead)
     → r ≡ setupRead (readSetup s slots lent1 lent2) → r′ ≡ setupRead (readSetup s slots lent1 lent2) → r ≡ r′
-unique-read-setup s slots lent1 lent2 r r′ p q = p ∙ sym q
+unique-read-setup s slots lent1 lent2 r r′ = one-outcome

@@ -3,6 +3,7 @@ use mathlib.Core.List.{List}
 use mathlib.Core.Path.{_≡_, sym, _∙_}
 use Prim.Native.Nat.{ℕ}
 use Rattle.words.specs.Rules.{answer}
+use Rattle.laws.proofs.Cases.{one-outcome}
 use Rattle.meaning.specs.PackedSetups.{setupWritingRules, writeSetup}
 use Rattle.setups.specs.Structs.{setupOf, setupWritten}
 use Rattle.setups.specs.declared.Setup.{Setup}
@@ -16,7 +17,7 @@ abbrev pub WritesSetup : Setup → List ℕ → SetupWritten → List ℕ → Ty
 WritesSetup s out r left = (r ≡ setupWritten (writeSetup (setupOf s) out)) × (left ≡ writeSetup (setupOf s) out .out)
 
 pub unique-writing-refusal : (s : Setup) (room r r′ : ℕ) → RefusesWriting s room r → RefusesWriting s room r′ → r ≡ r′
-unique-writing-refusal s room r r′ p q = p ∙ sym q
+unique-writing-refusal s room r r′ = one-outcome
 
 pub unique-write-setup : (s : Setup) (out : List ℕ) (r r′ : SetupWritten) (left left′ : List ℕ)
     → WritesSetup s out r left → WritesSetup s out r′ left′ → (r ≡ r′) × (left ≡ left′)

@@ -1,7 +1,6 @@
 -- Three kinds pass, and any other is refused.
-use borrow.Author.Needs.{needs}
 use native.Mathlib.Omega.{arith}
-use borrow.Author.Tests.{lt-ltb, le-ltb}
+use borrow.Author.Tests.{le-ltb}
 use Rattle.messages.proofs.layouts.kind_refusal.Statement.{statement}
 use Rattle.messages.proofs.layouts.kind_refusal.Tie as tie
 

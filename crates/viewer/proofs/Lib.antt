@@ -1,0 +1,3 @@
+-- Laws that the functions' proofs share, and that the promises leave no choice.
+pub mod Answers
+pub mod Unique

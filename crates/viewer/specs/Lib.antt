@@ -1,0 +1,2 @@
+-- What the C viewer's questions mean.
+pub mod Questions
