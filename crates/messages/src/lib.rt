@@ -1,5 +1,5 @@
 // Messages by value, read from packed bytes and written to them (meaning, PackedMessages.antt).
-pub mod layouts; // layouts.rt: the sizes of messages
+mod layouts; // layouts.rt: the sizes of messages
 pub mod reading; // reading.rt: bytes to a message
 pub mod writing; // writing.rt: a message to bytes
 

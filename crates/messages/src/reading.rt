@@ -142,7 +142,7 @@ fn nullification_in(bytes: &[u8]) -> Nullification
 }
 
 // A message whose every field is zero: a gate, and what a refusal gives.
-pub fn no_message() -> Message
+fn no_message() -> Message
     ensures { λ r. ⌜ r ≡ noMessage ⌝ }
 {
     Message {
