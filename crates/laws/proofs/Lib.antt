@@ -18,3 +18,4 @@ pub mod Signed
 pub mod Layouts
 pub mod FieldLoops
 pub mod Padded
+pub mod OpenLaws

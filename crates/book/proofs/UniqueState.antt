@@ -1,0 +1,47 @@
+-- No two different outcomes satisfy one promise: of the clock the time that it holds, of all else the result and each table left.
+use mathlib.Core.Bool.{Bool}
+use mathlib.Core.List.{List}
+use mathlib.Core.Path.{_≡_}
+use Prim.Native.Nat.{ℕ}
+use lib.IntN.{ℤ}
+use Rattle.words.specs.Rules.{answer}
+use Rattle.laws.proofs.Cases.{one-outcome}
+use Rattle.meaning.specs.Books.{openingRules}
+use Rattle.meaning.specs.Soundness.{sound}
+use Rattle.meaning.specs.Calls.{gateRules}
+use Rattle.setups.specs.declared.Setup.{Setup}
+use Rattle.setups.specs.Structs.{setupOf}
+use Rattle.clock.specs.declared.Clock.{Clock}
+use Rattle.clock.specs.Structs.{timeOf}
+use Rattle.book.specs.Answers.{gated, opened, heldOpened, sideOpened}
+use Rattle.book.specs.Structs.{timeIn, bookOf}
+use Rattle.book.specs.declared.Book.{Book}
+use Rattle.book.specs.declared.Gated.{Gated}
+use Rattle.book.specs.declared.Opened.{Opened}
+use Rattle.book.proofs.OpeningLaws.{openingAnswer}
+
+pub unique-clock-of : (b : Book) (r r′ : Clock) → timeOf r ≡ timeIn b → timeOf r′ ≡ timeIn b → timeOf r ≡ timeOf r′
+unique-clock-of b r r′ p q = one-outcome p q
+
+pub unique-is-sound : (b : Book) (held : List ℕ) (side1 side2 : List ℤ) (r r′ : Bool)
+    → r ≡ sound (bookOf b held side1 side2) → r′ ≡ sound (bookOf b held side1 side2) → r ≡ r′
+unique-is-sound b held side1 side2 r r′ p q = one-outcome p q
+
+pub unique-close-gate : (b : Book) (held : List ℕ) (side1 side2 : List ℤ) (r r′ : Gated)
+    → r ≡ gated b (answer (gateRules (bookOf b held side1 side2))) → r′ ≡ gated b (answer (gateRules (bookOf b held side1 side2))) → r ≡ r′
+unique-close-gate b held side1 side2 r r′ p q = one-outcome p q
+
+pub unique-opening-refusal : (s : Setup) (slots lent1 lent2 r r′ : ℕ)
+    → r ≡ answer (openingRules (setupOf s) slots lent1 lent2) → r′ ≡ answer (openingRules (setupOf s) slots lent1 lent2) → r ≡ r′
+unique-opening-refusal s slots lent1 lent2 r r′ p q = one-outcome p q
+
+-- what `open` ensures of its result and of the three tables
+abbrev pub Opens : Setup → List ℕ → List ℤ → List ℤ → Opened → List ℕ → List ℤ → List ℤ → Type 0
+Opens s held side1 side2 r h l1 l2 =
+    let a = openingAnswer s held side1 side2 in
+    (r ≡ opened s a) × (h ≡ heldOpened a held) × (l1 ≡ sideOpened a side1) × (l2 ≡ sideOpened a side2)
+
+pub unique-open : (s : Setup) (held : List ℕ) (side1 side2 : List ℤ) (r r′ : Opened) (h h′ : List ℕ) (l1 l1′ l2 l2′ : List ℤ)
+    → Opens s held side1 side2 r h l1 l2 → Opens s held side1 side2 r′ h′ l1′ l2′ → (r ≡ r′) × (h ≡ h′) × (l1 ≡ l1′) × (l2 ≡ l2′)
+unique-open s held side1 side2 r r′ h h′ l1 l1′ l2 l2′ p q =
+    (one-outcome (p .0) (q .0), one-outcome (p .1) (q .1), one-outcome (p .2) (q .2), one-outcome (p .3) (q .3))

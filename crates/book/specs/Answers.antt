@@ -1,0 +1,34 @@
+-- What the calls of `book` give with an answer, which is 0 where the call is accepted.
+use mathlib.Core.List.{List}
+use Prim.Native.Nat.{ℕ, _+_}
+use lib.IntN.{ℤ}
+use lib.ListN.{length, replicate}
+use Rattle.words.specs.Tests.{if_then_else_, _=?_}
+use Rattle.meaning.specs.Ledgers.{theMark}
+use Rattle.setups.specs.declared.Setup.{Setup}
+use Rattle.setups.specs.Structs.{noSetupStruct}
+use Rattle.book.specs.declared.Book.{Book}
+use Rattle.book.specs.declared.Gated.{Gated}
+use Rattle.book.specs.declared.Opened.{Opened}
+
+-- ---- closing a gate: one more is closed, and with a refusal the book is as it came
+
+unfoldable pub oneClosed : Book → Book
+oneClosed b = record { setup = b .setup; closed = b .closed + 1 }
+
+unfoldable pub gated : Book → ℕ → Gated
+gated b answer = record { answer = answer; book = if answer =? 0 then oneClosed b else b }
+
+-- ---- opening: no gate closed, no identifier held, the mark in every place; with a refusal a book all zero, and the tables as they came
+
+abbrev pub noBook : Book
+noBook = record { setup = noSetupStruct; closed = 0 }
+
+unfoldable pub opened : Setup → ℕ → Opened
+opened s answer = record { answer = answer; book = if answer =? 0 then record { setup = s; closed = 0 } else noBook }
+
+unfoldable pub heldOpened : ℕ → List ℕ → List ℕ
+heldOpened answer held = if answer =? 0 then replicate (length held) 0 else held
+
+unfoldable pub sideOpened : ℕ → List ℤ → List ℤ
+sideOpened answer side = if answer =? 0 then replicate (length side) theMark else side

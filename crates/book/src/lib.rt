@@ -1,0 +1,29 @@
+// A book by value beside its lent tables: `held`, an entry a slot (0 unheld, else one more than originator * 65,536 + reference), and a table
+// of volumes for each side, slots times days times 50.
+pub mod state; // state.rt: the clock of a book, and its soundness
+pub mod gates; // gates.rt: closing the next gate
+pub mod opening; // opening.rt: a setup and three lent tables to a book
+mod checks; // checks.rt: what can be wrong with a notification that needs no table
+mod kinds; // kinds.rt: initial, replacement or additional
+mod effects; // effects.rt: what an accepted message makes of one side's table
+
+// The setup, and the number of gates closed.
+#[repr(C)]
+pub struct Book {
+    pub setup: setups::Setup,
+    pub closed: u16,
+}
+
+// With a refusal the book is as it came.
+#[repr(C)]
+pub struct Gated {
+    pub answer: u8,
+    pub book: Book,
+}
+
+// With a refusal the book is all zero.
+#[repr(C)]
+pub struct Opened {
+    pub answer: u8,
+    pub book: Book,
+}
