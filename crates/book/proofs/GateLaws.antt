@@ -1,18 +1,18 @@
 -- Closing a gate: the answers in their order, the next gate's number fits, and the new book is the one that meaning speaks of.
 use mathlib.Core.Bool.{true, false}
 use mathlib.Core.List.{List}
-use mathlib.Core.Path.{_≡_, sym, ap, _∙_}
-use Prim.Native.Nat.{ℕ, _+_, _<_}
+use mathlib.Core.Path.{_≡_}
+use Prim.Native.Nat.{ℕ, _<_}
 use native.Mathlib.Numerals.{add-one}
 use native.Mathlib.Omega.{arith}
 use lib.Dec.{eqb}
 use lib.IntN.{ℤ}
 use lib.ListN.{length}
-use borrow.Author.Tests.{leb-false, eqb-true}
+use borrow.Author.Tests.{leb-false}
 use Rattle.words.specs.Tests.{if_then_else_}
 use Rattle.words.specs.Rules.{answer}
 use Rattle.laws.proofs.Cases.{on}
-use Rattle.meaning.specs.Time.{Time, allGates, everyGateClosed, withGateClosed}
+use Rattle.meaning.specs.Time.{allGates, everyGateClosed, withGateClosed}
 use Rattle.meaning.specs.Ledgers.{contracts}
 use Rattle.meaning.specs.Books as Meaning
 use Rattle.meaning.specs.Soundness.{sound}

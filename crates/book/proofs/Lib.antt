@@ -1,6 +1,7 @@
 -- Laws that the functions' proofs share; the calls in meaning's terms; and that no two outcomes meet one promise.
 pub mod SoundParts
 pub mod GateLaws
+pub mod CallLaws
 pub mod OpeningLaws
 pub mod RuleByRule
 pub mod CheckLaws
@@ -10,3 +11,4 @@ pub mod DayRuns
 pub mod EffectLaws
 pub mod PairRows
 pub mod UniqueState
+pub mod UniqueNullify

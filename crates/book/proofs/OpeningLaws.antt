@@ -1,20 +1,19 @@
 -- Opening: what a refusal leaves, and that an opened book with its emptied tables is the one that meaning speaks of.
 use mathlib.Core.List.{List}
 use mathlib.Core.Logic.{_≢_}
-use mathlib.Core.Path.{_≡_, sym, ap, ap₂, _∙_}
+use mathlib.Core.Path.{_≡_}
 use Prim.Native.Nat.{ℕ}
 use lib.IntN.{ℤ}
-use lib.ListN.{length, replicate}
+use lib.ListN.{length}
 use borrow.Author.Tests.{ne-eqb}
 use Rattle.words.specs.Rules.{answer}
-use Rattle.meaning.specs.Ledgers.{contracts, theMark, Ledger, emptyLedger}
+use Rattle.meaning.specs.Ledgers.{contracts, emptyLedger}
 use Rattle.meaning.specs.Books.{openingRules, openedBook}
 use Rattle.meaning.proofs.SetupRules.{opens}
 use Rattle.setups.specs.declared.Setup.{Setup}
 use Rattle.setups.specs.Structs.{setupOf}
 use Rattle.book.specs.Answers.{noBook, opened, heldOpened, sideOpened}
 use Rattle.book.specs.Structs.{bookOf}
-use Rattle.book.specs.declared.Opened.{Opened}
 
 module _ (n : ℕ) (refused : n ≢ 0) where
   pub opened-refused : (s : Setup) → opened s n ≡ record { answer = n; book = noBook }

@@ -1,15 +1,14 @@
 -- Soundness as the code tests it: the setup rules, and once they have passed the clock, the held identifiers and each side with its length.
-use mathlib.Core.Bool.{Bool, true, false, _&&_}
+use mathlib.Core.Bool.{Bool, false, _&&_}
 use mathlib.Core.List.{List}
 use mathlib.Core.Logic.{_≢_}
 use mathlib.Core.Path.{_≡_, sym, ap, ap₂, _∙_}
 use Prim.Native.Nat.{ℕ, _≤_}
 use native.Mathlib.Omega.{arith}
-use lib.Dec.{leb, eqb}
+use lib.Dec.{leb}
 use lib.IntN.{ℤ}
 use lib.ListN.{length}
 use borrow.Author.Tests.{le-leb, eq-eqb, ne-eqb}
-use Rattle.words.specs.Lists.{build}
 use Rattle.words.specs.Rules.{answer}
 use Rattle.laws.proofs.Builds.{length-build}
 use Rattle.meaning.specs.Time.{Time, gatesBefore}

@@ -1,10 +1,16 @@
 -- What the calls of `book` give with an answer, which is 0 where the call is accepted.
+use mathlib.Core.Bool.{Bool, not, _||_}
 use mathlib.Core.List.{List}
 use Prim.Native.Nat.{ℕ, _+_}
 use lib.IntN.{ℤ}
 use lib.ListN.{length, replicate}
-use Rattle.words.specs.Tests.{if_then_else_, _=?_}
-use Rattle.meaning.specs.Ledgers.{theMark}
+use Rattle.words.specs.Tests.{if_then_else_, _<?_, _=?_}
+use Rattle.words.specs.Runs.{step}
+use Rattle.meaning.specs.Ledgers.{contracts, theMark}
+use Rattle.meaning.specs.Books as Meaning
+use Rattle.meaning.specs.Calls.{Call, accepted, act}
+use Rattle.meaning.specs.History.{event}
+use Rattle.messages.specs.declared.Nullification.{Nullification}
 use Rattle.setups.specs.declared.Setup.{Setup}
 use Rattle.setups.specs.Structs.{noSetupStruct}
 use Rattle.book.specs.declared.Book.{Book}
@@ -32,3 +38,12 @@ heldOpened answer held = if answer =? 0 then replicate (length held) 0 else held
 
 unfoldable pub sideOpened : ℕ → List ℤ → List ℤ
 sideOpened answer side = if answer =? 0 then replicate (length side) theMark else side
+
+-- ---- a call as meaning has it: what an accepted one makes of the book; a refused one changes nothing
+
+abbrev pub afterCall : Meaning.Book contracts → Call contracts → Meaning.Book contracts
+afterCall b c = step accepted act event b c
+
+-- an account of the nullification is not in the book, or the two are one
+unfoldable pub accountsWrong : Book → Nullification → Bool
+accountsWrong b x = not (x .account <? b .setup .accounts) || not (x .other <? b .setup .accounts) || x .account =? x .other

@@ -3,6 +3,7 @@
 pub mod state; // state.rt: the clock of a book, and its soundness
 pub mod gates; // gates.rt: closing the next gate
 pub mod opening; // opening.rt: a setup and three lent tables to a book
+pub mod nullifications; // nullifications.rt: blanking a pair
 mod checks; // checks.rt: what can be wrong with a notification that needs no table
 mod kinds; // kinds.rt: initial, replacement or additional
 mod effects; // effects.rt: what an accepted message makes of one side's table

@@ -1,6 +1,6 @@
 -- As many marks are stored as there are places.
 use borrow.Author.Needs.{needs}
-use mathlib.Core.Path.{_≡_, _∙_}
+use mathlib.Core.Path.{_∙_}
 use denote.Ref.{now}
 use Rattle.laws.proofs.OpenLaws.{sets-all}
 use Rattle.meaning.specs.Ledgers.{theMark}

@@ -1,6 +1,6 @@
 -- A refusal of the setup rules is enough; past them each part is a test of its own.
 use borrow.Author.Needs.{needs}
-use mathlib.Core.Path.{_≡_, sym, _∙_}
+use mathlib.Core.Path.{sym, _∙_}
 use denote.Ref.{now}
 use Rattle.book.proofs.SoundParts.{sound-refused, sound-parts}
 use Rattle.book.proofs.state.is_sound.Statement.{statement}
