@@ -11,6 +11,7 @@ use lib.ListN.{length, getD, List·getD-eq-default}
 use lib.Seq.{getD-set-same, getD-set-other}
 use borrow.Author.Tests.{ltb-false, le-ltb, eq-eqb, ne-eqb}
 use Rattle.words.specs.Lists.{build, mapAt, find}
+use Rattle.words.specs.Rules.{answer}
 use Rattle.laws.proofs.Builds.{getD-build}
 use Rattle.laws.proofs.Cases.{on, by-lt, by-eq, and-false, and-true}
 use Rattle.laws.proofs.Lists.{mapAt-is, mapAt-same}
@@ -18,6 +19,10 @@ use Rattle.meaning.specs.Time.{Time, days, dayNumber, isPeriodAt, isOpenAt}
 use Rattle.meaning.specs.Authorisations.{Authorisation}
 use Rattle.meaning.specs.Ledgers.{contracts, theMark, slotAt, dayAt, periodAt, slotFor, holds, Side}
 use Rattle.meaning.specs.Messages.{Notification, Nullification, Message, notification, nullification, writes, about, from, leaves, volume, says, reaches, rewritten, heldAfter}
+use Rattle.meaning.specs.Books.{Book}
+use Rattle.meaning.specs.Notifications.{notificationRules}
+use Rattle.meaning.proofs.Sound.{parts}
+use Rattle.meaning.proofs.Accepted.{NotificationPasses, notification-passes}
 use Rattle.meaning.proofs.Clock.{is-period, reaches-is}
 use Rattle.meaning.proofs.Held.{Room, Apart, with, held-is, unheld-is}
 use Rattle.book.specs.Effects.{only, slotRule, pairIn}
@@ -146,6 +151,23 @@ module _ (rows : List Authorisation) (t : Time) (n : Notification contracts) (he
       (λ j h.
       sym (place-not t (notification n) rows after σ j (getD table j (pos 0))
       (about-entry rows n σ (getD after (slotAt (days t) j) 0) ∙ rw (w, and-false (eqb (getD after (slotAt (days t) j) 0) (suc (n .identifier))))))))
+
+-- an accepted notification finds its identifiers apart and a slot for its own, so that this is its whole effect on a side
+module _ (b : Book contracts) (n : Notification contracts) (accepted : answer (notificationRules b n) ≡ 0) where
+  passes : NotificationPasses b n
+  passes = notification-passes b n accepted
+
+  held-apart : Apart (b .ledger .held)
+  held-apart = λ k i hk e. parts b (passes .call .book) .slots k i hk e .own
+
+  -- its slot is one of the book's
+  pub accepted-slot : slotFor (b .ledger .held) (n .identifier) < length (b .ledger .held)
+  accepted-slot = slot-inside (b .ledger .held) (n .identifier) held-apart (passes .room)
+
+  pub accepted-side : (σ : Side) (table : List ℤ) → writes (b .rows) n σ ≡ true
+      → rewritten (b .rows) (b .time) (notification n) (heldAfter (notification n) (b .ledger .held)) σ table
+      ≡ mapAt (slotRule (b .time) (slotFor (b .ledger .held) (n .identifier)) (n .first) (suc (n .last)) (volumesGiven n)) table
+  accepted-side σ table w = written-side (b .rows) (b .time) n (b .ledger .held) σ table held-apart (passes .room) w
 
 -- ---- the slots of a nullification's pair
 

@@ -10,5 +10,7 @@ pub mod Volumes
 pub mod DayRuns
 pub mod EffectLaws
 pub mod PairRows
+pub mod NotifyLaws
 pub mod UniqueState
 pub mod UniqueNullify
+pub mod UniqueNotify

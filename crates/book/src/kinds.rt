@@ -42,7 +42,7 @@ fn clock_of(b: Book) -> clock::Clock
 }
 
 // An authorisation of the setup; the all-zero row past their count.
-fn row_at(s: setups::Setup, k: u32) -> setups::Authorisation
+pub fn row_at(s: setups::Setup, k: u32) -> setups::Authorisation
     ensures { λ r. ⌜ rowOf r ≡ rowAt (rowsIn s) k ⌝ }
 {
     let mut row = setups::Authorisation {
@@ -62,7 +62,7 @@ fn row_at(s: setups::Setup, k: u32) -> setups::Authorisation
 }
 
 // The notification writes side 1: it is sent by agent 1.
-fn writes_side1(b: Book, n: messages::Notification) -> bool
+pub fn writes_side1(b: Book, n: messages::Notification) -> bool
     ensures { λ r. ⌜ r ≡ writes (rowsIn (b .setup)) (notificationOf n) one ⌝ }
 {
     let row = row_at(b.setup, n.authorisation as u32);
@@ -70,7 +70,7 @@ fn writes_side1(b: Book, n: messages::Notification) -> bool
 }
 
 // The notification writes side 2: it is sent by agent 2.
-fn writes_side2(b: Book, n: messages::Notification) -> bool
+pub fn writes_side2(b: Book, n: messages::Notification) -> bool
     ensures { λ r. ⌜ r ≡ writes (rowsIn (b .setup)) (notificationOf n) two ⌝ }
 {
     let row = row_at(b.setup, n.authorisation as u32);
