@@ -16,13 +16,11 @@ use Rattle.laws.proofs.Below.{some-none, some-front, some-miss, some-all, some-
 use Rattle.laws.proofs.Builds.{length-build, getD-build, getD-build-past, any-build}
 use Rattle.laws.proofs.Cases.{by-lt, not-not, same-false}
 use Rattle.meaning.specs.Time.{periodsAt}
-use Rattle.meaning.specs.Authorisations.{rowAt}
 use Rattle.meaning.specs.Ledgers.{Sort, contracts}
 use Rattle.meaning.specs.Messages as Messages
 use Rattle.meaning.specs.Books as Books
 use Rattle.meaning.specs.Notifications.{keyOrAgentWrong, originatorRight, highestPeriod, rising, periodWrong, volumeWrong, notificationRules}
-use Rattle.setups.specs.declared.Authorisation.{Authorisation}
-use Rattle.setups.specs.Structs.{noAuthorisation, rowOf, rowsOf, codesOf}
+use Rattle.setups.specs.Structs.{codesOf}
 use Rattle.messages.specs.declared.Notification.{Notification}
 use Rattle.messages.specs.Structs.{noEntry, entryOf, entriesOf, notificationOf}
 use Rattle.messages.proofs.Notification as Note
@@ -30,17 +28,8 @@ use Rattle.messages.proofs.Notification.Laws as NoteLaws
 use Rattle.book.specs.declared.Book.{Book}
 use Rattle.book.specs.Structs.{bookOf}
 use Rattle.book.specs.Checks.{checkRules}
-use Rattle.book.proofs.Book as Held
-use Rattle.book.proofs.Book.Laws as HeldLaws
 
 -- ---- what the types say
-
-module _ (b : Book) (g : Is (row Held.the-type) b (vals Held.the-type HeldLaws.the-laws b)) where
-  pub rows-length : length (b .setup .rows) ≡ 64
-  rows-length = simp length-map at (owed Held.the-type HeldLaws.the-laws b (vals Held.the-type HeldLaws.the-laws b) g .0 .1 .1 .1 .1 .1 .1 .1 .0 .1 .0 .1)
-
-  pub days-few : b .setup .days < 256
-  days-few = owed Held.the-type HeldLaws.the-laws b (vals Held.the-type HeldLaws.the-laws b) g .0 .1 .1 .1 .0 .1
 
 module _ (n : Notification) (g : Is (row Note.the-type) n (vals Note.the-type NoteLaws.the-laws n)) where
   pub reference-fits : n .reference < 65536
@@ -49,23 +38,7 @@ module _ (n : Notification) (g : Is (row Note.the-type) n (vals Note.the-type No
   pub entries-length : length (n .entries) ≡ 50
   entries-length = simp length-map at (owed Note.the-type NoteLaws.the-laws n (vals Note.the-type NoteLaws.the-laws n) g .1 .1 .1 .1 .1 .1 .1 .1 .0 .1 .0 .1)
 
--- ---- rows and days
-
-module _ (m : ℕ) (rows : List Authorisation) (k : ℕ) where
-  -- a row of the book; one past its rows; one past the array
-  pub row-inside : k < m → rowAt (rowsOf m rows) k ≡ rowOf (getD rows k noAuthorisation)
-  unfolding rowsOf
-  row-inside h = getD-build m (λ (j : ℕ). rowOf (getD rows j noAuthorisation)) (rowOf noAuthorisation) k h
-
-  pub row-past : m ≤ k → rowAt (rowsOf m rows) k ≡ rowOf noAuthorisation
-  unfolding rowsOf
-  row-past h = getD-build-past m (λ (j : ℕ). rowOf (getD rows j noAuthorisation)) (rowOf noAuthorisation) k h
-
-  pub row-beyond : length rows ≤ k → rowAt (rowsOf m rows) k ≡ rowOf noAuthorisation
-  row-beyond h =
-      by-lt k m
-      (λ l. row-inside l ∙ ap rowOf (List·getD-eq-default rows noAuthorisation {n = k} h))
-      (λ l. row-past l)
+-- ---- days
 
 -- a day that is past a bound on the days has the periods of the one at the bound
 pub periods-capped : (m : ℕ) (codes : List ℕ) (d high : ℕ) → m ≤ high → periodsAt (codesOf m codes) (min d high) ≡ periodsAt (codesOf m codes) d

@@ -18,11 +18,10 @@ use Rattle.meaning.specs.Books as Meaning
 use Rattle.meaning.specs.Soundness.{sound}
 use Rattle.meaning.specs.Calls.{gate, gateRules, rulesFor, accepted, act}
 use Rattle.meaning.proofs.Clock.{gates-le}
-use Rattle.meaning.proofs.SetupRules.{opens}
-use Rattle.meaning.proofs.Sound.{parts}
-use Rattle.book.specs.Answers.{oneClosed, gated}
+use Rattle.book.specs.Answers.{nextAnswer, oneClosed, gated}
 use Rattle.book.specs.Structs.{timeIn, bookOf}
 use Rattle.book.specs.declared.Book.{Book}
+use Rattle.book.proofs.SoundParts.{codes-count}
 
 -- ---- the answers
 
@@ -31,25 +30,29 @@ module _ (b : Meaning.Book contracts) where
   unfolding answer gateRules
   gate-unsound e = rw e
 
-  pub gate-late : sound b ≡ true → everyGateClosed (b .time) ≡ true → answer (gateRules b) ≡ 2
-  unfolding answer gateRules
-  gate-late e q = rw (e, q)
+module _ (b : Book) where
+  pub next-late : everyGateClosed (timeIn b) ≡ true → nextAnswer b ≡ 2
+  unfolding nextAnswer
+  next-late e = rw e
 
-  pub gate-done : sound b ≡ true → everyGateClosed (b .time) ≡ false → answer (gateRules b) ≡ 0
-  unfolding answer gateRules
-  gate-done e q = rw (e, q)
+  pub next-open : everyGateClosed (timeIn b) ≡ false → nextAnswer b ≡ 0
+  unfolding nextAnswer
+  next-open e = rw e
+
+  -- the days of a book's struct are few, sound or not
+  pub few-gates : b .setup .days < 256 → everyGateClosed (timeIn b) ≡ false → b .closed < 12800
+  unfolding everyGateClosed
+  few-gates few e =
+      let codes = timeIn b .codes in
+      omega (arith, leb-false (allGates codes) (b .closed) e, gates-le codes (length codes), codes-count b)
 
 module _ (b : Book) (held : List ℕ) (side1 side2 : List ℤ) where
   abbrev pub whole : Meaning.Book contracts
   whole = bookOf b held side1 side2
 
-  -- a sound book has at most 8 days of 50 gates
-  pub few-gates : sound whole ≡ true → everyGateClosed (timeIn b) ≡ false → b .closed < 400
-  unfolding everyGateClosed
-  few-gates s e =
-      let o = opens (Meaning.setupOf whole) (length held) (length side1) (length side2) (parts whole s .setup) in
-      let codes = timeIn b .codes in
-      omega (arith, leb-false (allGates codes) (b .closed) e, gates-le codes (length codes), o .few-days)
+  pub gate-sound : sound whole ≡ true → answer (gateRules whole) ≡ nextAnswer b
+  unfolding answer gateRules nextAnswer
+  gate-sound e = on (everyGateClosed (timeIn b)) (λ q. rw (e, q)) (λ q. rw (e, q))
 
   -- ---- the new book
 

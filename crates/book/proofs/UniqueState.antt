@@ -1,31 +1,46 @@
--- No two different outcomes satisfy one promise: of the clock the time that it holds, of all else the result and each table left.
+-- No two different outcomes satisfy one promise: the result, and each table left.
 use mathlib.Core.Bool.{Bool}
-use mathlib.Core.List.{List}
-use mathlib.Core.Path.{_≡_}
+use mathlib.Core.List.{List, []}
+use mathlib.Core.Path.{_≡_, ap}
 use Prim.Native.Nat.{ℕ}
 use lib.IntN.{ℤ}
 use Rattle.words.specs.Rules.{answer}
 use Rattle.laws.proofs.Cases.{one-outcome}
+use Rattle.meaning.specs.Authorisations.{rowAt}
 use Rattle.meaning.specs.Books.{openingRules}
 use Rattle.meaning.specs.Soundness.{sound}
 use Rattle.meaning.specs.Calls.{gateRules}
+use Rattle.setups.specs.declared.Authorisation.{Authorisation}
 use Rattle.setups.specs.declared.Setup.{Setup}
-use Rattle.setups.specs.Structs.{setupOf}
+use Rattle.setups.specs.Structs.{rowOf, rowFor, setupOf}
+use Rattle.messages.specs.declared.Notification.{Notification}
+use Rattle.messages.specs.Structs.{notificationOf}
 use Rattle.clock.specs.declared.Clock.{Clock}
-use Rattle.clock.specs.Structs.{timeOf}
-use Rattle.book.specs.Answers.{gated, opened, heldOpened, sideOpened}
-use Rattle.book.specs.Structs.{timeIn, bookOf}
+use Rattle.book.specs.Answers.{nextAnswer, gated, opened, heldOpened, sideOpened}
+use Rattle.book.specs.Checks.{checkRules}
+use Rattle.book.specs.Structs.{clockIn, rowsIn, bookOf}
 use Rattle.book.specs.declared.Book.{Book}
 use Rattle.book.specs.declared.Gated.{Gated}
 use Rattle.book.specs.declared.Opened.{Opened}
 use Rattle.book.proofs.OpeningLaws.{openingAnswer}
 
-pub unique-clock-of : (b : Book) (r r′ : Clock) → timeOf r ≡ timeIn b → timeOf r′ ≡ timeIn b → timeOf r ≡ timeOf r′
+pub unique-clock-of : (b : Book) (r r′ : Clock) → r ≡ clockIn b → r′ ≡ clockIn b → r ≡ r′
 unique-clock-of b r r′ p q = one-outcome p q
+
+-- a row is all that its struct has
+pub unique-row-of : (b : Book) (k : ℕ) (r r′ : Authorisation) → rowOf r ≡ rowAt (rowsIn (b .setup)) k → rowOf r′ ≡ rowAt (rowsIn (b .setup)) k → r ≡ r′
+unique-row-of b k r r′ p q = ap rowFor (one-outcome p q)
 
 pub unique-is-sound : (b : Book) (held : List ℕ) (side1 side2 : List ℤ) (r r′ : Bool)
     → r ≡ sound (bookOf b held side1 side2) → r′ ≡ sound (bookOf b held side1 side2) → r ≡ r′
 unique-is-sound b held side1 side2 r r′ p q = one-outcome p q
+
+pub unique-close-next : (b : Book) (r r′ : Gated) → r ≡ gated b (nextAnswer b) → r′ ≡ gated b (nextAnswer b) → r ≡ r′
+unique-close-next b r r′ p q = one-outcome p q
+
+pub unique-checks-refusal : (b : Book) (n : Notification) (r r′ : ℕ)
+    → r ≡ answer (checkRules (bookOf b [] [] []) (notificationOf n)) → r′ ≡ answer (checkRules (bookOf b [] [] []) (notificationOf n)) → r ≡ r′
+unique-checks-refusal b n r r′ p q = one-outcome p q
 
 pub unique-close-gate : (b : Book) (held : List ℕ) (side1 side2 : List ℤ) (r r′ : Gated)
     → r ≡ gated b (answer (gateRules (bookOf b held side1 side2))) → r′ ≡ gated b (answer (gateRules (bookOf b held side1 side2))) → r ≡ r′

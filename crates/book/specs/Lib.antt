@@ -2,5 +2,3 @@
 pub mod Structs
 pub mod Answers
 pub mod Checks
-pub mod Kinds
-pub mod Effects

@@ -1,18 +1,28 @@
 -- The structs of `book` and the lent tables, and the book that they hold together.
-use mathlib.Core.List.{List, []}
+use mathlib.Core.List.{List}
 use Prim.Native.Nat.{ℕ}
 use lib.IntN.{ℤ}
 use Rattle.meaning.specs.Time.{Time}
+use Rattle.meaning.specs.Authorisations.{Authorisation}
 use Rattle.meaning.specs.Ledgers.{contracts}
 use Rattle.meaning.specs.Books as Meaning
+use Rattle.clock.specs.declared.Clock.{Clock}
+use Rattle.setups.specs.declared.Setup.{Setup}
 use Rattle.setups.specs.Structs.{codesOf, rowsOf}
 use Rattle.book.specs.declared.Book.{Book}
 
--- the days and the clock
+-- the days and the clock, and the same by value
 abbrev pub timeIn : Book → Time
 timeIn b = record { first = b .setup .first; codes = codesOf (b .setup .days) (b .setup .codes); closed = b .closed }
+
+abbrev pub clockIn : Book → Clock
+clockIn b = record { first = b .setup .first; days = b .setup .days; codes = b .setup .codes; closed = b .closed }
+
+-- the authorisations
+abbrev pub rowsIn : Setup → List Authorisation
+rowsIn s = rowsOf (s .authorisations) (s .rows)
 
 -- a book by value beside its lent tables: held, side 1, side 2
 abbrev pub bookOf : Book → List ℕ → List ℤ → List ℤ → Meaning.Book contracts
 bookOf b held side1 side2 =
-    record { time = timeIn b; accounts = b .setup .accounts; rows = rowsOf (b .setup .authorisations) (b .setup .rows); ledger = record { held = held; side1 = side1; side2 = side2 } }
+    record { time = timeIn b; accounts = b .setup .accounts; rows = rowsIn (b .setup); ledger = record { held = held; side1 = side1; side2 = side2 } }

@@ -1,5 +1,6 @@
 // What can be wrong with a notification that needs no table: refusals 2 to 11 (meaning, Notifications.antt), for any book, sound or not.
 use crate::Book;
+use crate::state;
 ghost use mathlib.Core.Bool.{not};
 ghost use mathlib.Core.List.{[]};
 ghost use mathlib.Core.Path.{_≡_};
@@ -7,10 +8,8 @@ ghost use Prim.Native.Nat.{min};
 ghost use Rattle.words.specs.Tests.{within};
 ghost use Rattle.words.specs.Rules.{answer};
 ghost use Rattle.meaning.specs.Time.{dayOf, everyGateClosed, currentDay};
-ghost use Rattle.meaning.specs.Authorisations.{rowAt, inForce};
+ghost use Rattle.meaning.specs.Authorisations.{inForce};
 ghost use Rattle.meaning.specs.Notifications.{under, keyOrAgentWrong, originatorRight, highestPeriod, periodWrong, volumeWrong};
-ghost use Rattle.clock.specs.Structs.{timeOf};
-ghost use Rattle.setups.specs.Structs.{noAuthorisation, rowOf, rowsOf};
 ghost use Rattle.messages.specs.Structs.{notificationOf};
 ghost use Rattle.book.specs.Structs.{timeIn, bookOf};
 ghost use Rattle.book.specs.Checks.{checkRules};
@@ -35,63 +34,17 @@ const PERIOD_WRONG: u8 = 10;
 
 const VOLUME_WRONG: u8 = 11;
 
-const MOST_ROWS: u8 = 64;
-
 const MOST_ENTRIES: u8 = 50;
 
 const PLAIN_DAY: u8 = 48;
 
 const LAST_PLACE: u16 = 255;
 
-// The days and the clock of the book.
-fn clock_in(b: Book) -> clock::Clock
-    ensures { λ r. ⌜ timeOf r ≡ timeIn b ⌝ }
-{
-    let s = b.setup;
-    let codes = s.codes;
-    clock::Clock {
-        first: s.first,
-        days: s.days,
-        codes: codes,
-        closed: b.closed,
-    }
-}
-
-fn no_row() -> setups::Authorisation
-    ensures { λ r. ⌜ r ≡ noAuthorisation ⌝ }
-{
-    setups::Authorisation {
-        agent1: 0,
-        agent2: 0,
-        account1: 0,
-        account2: 0,
-        key: 0,
-        first: 0,
-        last: 0,
-        amendment: 0,
-    }
-}
-
-// The authorisation of a number; all zero where the book has none.
-fn row_of(b: Book, k: u8) -> setups::Authorisation
-    ensures { λ r. ⌜ rowOf r ≡ rowAt (rowsOf (b .setup .authorisations) (b .setup .rows)) k ⌝ }
-{
-    let s = b.setup;
-    if s.authorisations <= k {
-        return no_row();
-    }
-    if MOST_ROWS <= k {
-        return no_row();
-    }
-    let row = s.rows[k as usize];
-    row
-}
-
 // "key wrong, or agent is neither of its two"
 fn key_or_agent_wrong(b: Book, n: messages::Notification) -> bool
     ensures { λ r. ⌜ r ≡ keyOrAgentWrong (bookOf b [] [] []) (notificationOf n) ⌝ }
 {
-    let row = row_of(b, n.authorisation);
+    let row = state::row_of(b, n.authorisation as u32);
     (n.key != row.key) | !((n.agent == row.agent1) | (n.agent == row.agent2))
 }
 
@@ -99,7 +52,7 @@ fn key_or_agent_wrong(b: Book, n: messages::Notification) -> bool
 fn in_force(b: Book, n: messages::Notification, today: u32) -> bool
     ensures { λ r. ⌜ r ≡ inForce (under (bookOf b [] [] []) (notificationOf n)) today ⌝ }
 {
-    let row = row_of(b, n.authorisation);
+    let row = state::row_of(b, n.authorisation as u32);
     (row.first as u32 <= today) & (today <= row.last as u32)
 }
 
@@ -109,8 +62,8 @@ fn originator_wrong(b: Book, n: messages::Notification, today: u32) -> bool
     ensures { λ r. ⌜ r ≡ not (originatorRight (bookOf b [] [] []) (notificationOf n)) ⌝ }
 {
     let s = b.setup;
-    let row = row_of(b, n.authorisation);
-    let o = row_of(b, n.originator);
+    let row = state::row_of(b, n.authorisation as u32);
+    let o = state::row_of(b, n.originator as u32);
     let same = (o.account1 == row.account1) & (o.account2 == row.account2);
     let old = (n.originator < s.authorisations) & ((o.last as u32) < today) & same;
     !((n.originator == n.authorisation) | old)
@@ -139,7 +92,7 @@ fn highest_period(b: Book, n: messages::Notification) -> u8
         return PLAIN_DAY;
     }
     let place = place_of(b, n.first);
-    clock::periods_at(clock_in(b), place)
+    clock::periods_at(state::clock_of(b), place)
 }
 
 // More than 50 entries, or one whose period does not rise or is too high: the first such entry ends the search.
@@ -201,7 +154,7 @@ pub fn checks_refusal(b: Book, n: messages::Notification) -> u8
     ensures { λ r. ⌜ r ≡ answer (checkRules (bookOf b [] [] []) (notificationOf n)) ⌝ }
 {
     let s = b.setup;
-    let time = clock_in(b);
+    let time = state::clock_of(b);
     if clock::every_gate_closed(time) {
         return EVERY_GATE_CLOSED;
     }

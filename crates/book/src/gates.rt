@@ -6,20 +6,14 @@ ghost use mathlib.Core.Path.{_≡_};
 ghost use Rattle.words.specs.Rules.{answer};
 ghost use Rattle.meaning.specs.Calls.{gateRules};
 ghost use Rattle.book.specs.Structs.{bookOf};
-ghost use Rattle.book.specs.Answers.{gated};
+ghost use Rattle.book.specs.Answers.{nextAnswer, gated};
 
 pub const EVERY_GATE_CLOSED: u8 = 2;
 
-// The answer, and the book with one gate more closed; with a refusal the book as it came.
-pub fn close_gate(b: Book, held: &[u32], side1: &[i32], side2: &[i32]) -> Gated
-    ensures { λ r. ⌜ r ≡ gated b (answer (gateRules (bookOf b (now (held .entry)) (now (side1 .entry)) (now (side2 .entry))))) ⌝ }
+// The next gate of a book known to be sound; with a refusal the book as it came.
+pub fn close_next(b: Book) -> Gated
+    ensures { λ r. ⌜ r ≡ gated b (nextAnswer b) ⌝ }
 {
-    if !state::is_sound(b, held, side1, side2) {
-        return Gated {
-            answer: state::NOT_SOUND,
-            book: b,
-        };
-    }
     let c = state::clock_of(b);
     if clock::every_gate_closed(c) {
         return Gated {
@@ -36,4 +30,17 @@ pub fn close_gate(b: Book, held: &[u32], side1: &[i32], side2: &[i32]) -> Gated
         answer: 0,
         book: after,
     }
+}
+
+// The answer, and the book with one gate more closed; with a refusal the book as it came.
+pub fn close_gate(b: Book, held: &[u32], side1: &[i32], side2: &[i32]) -> Gated
+    ensures { λ r. ⌜ r ≡ gated b (answer (gateRules (bookOf b (now (held .entry)) (now (side1 .entry)) (now (side2 .entry))))) ⌝ }
+{
+    if !state::is_sound(b, held, side1, side2) {
+        return Gated {
+            answer: state::NOT_SOUND,
+            book: b,
+        };
+    }
+    close_next(b)
 }

@@ -1,13 +1,9 @@
 // A book by value beside its lent tables: `held`, an entry a slot (0 unheld, else one more than originator * 65,536 + reference), and a table
 // of volumes for each side, slots times days times 50.
-pub mod state; // state.rt: the clock of a book, and its soundness
+pub mod state; // state.rt: the clock and the authorisations of a book, and its soundness
 pub mod gates; // gates.rt: closing the next gate
 pub mod opening; // opening.rt: a setup and three lent tables to a book
-pub mod notifications; // notifications.rt: a notification's answer, and what it writes
-pub mod nullifications; // nullifications.rt: blanking a pair
-mod checks; // checks.rt: what can be wrong with a notification that needs no table
-mod kinds; // kinds.rt: initial, replacement or additional
-mod effects; // effects.rt: what an accepted message makes of one side's table
+pub mod checks; // checks.rt: what can be wrong with a notification that needs no table
 
 // The setup, and the number of gates closed.
 #[repr(C)]
@@ -28,12 +24,4 @@ pub struct Gated {
 pub struct Opened {
     pub answer: u8,
     pub book: Book,
-}
-
-// The kind is 1 initial, 2 replacement, 3 additional. With a refusal kind and slot are 0.
-#[repr(C)]
-pub struct Notified {
-    pub answer: u8,
-    pub kind: u8,
-    pub slot: u16,
 }

@@ -1,16 +1,19 @@
-// The clock of a book, and "A sound book" (1), the test that every call and every question makes first.
+// The clock and the authorisations of a book, and "A sound book" (1), the test that every call and every question makes first.
 use crate::Book;
 use crate::opening;
 ghost use mathlib.Core.Path.{_≡_};
 ghost use Rattle.meaning.specs.Soundness.{sound};
-ghost use Rattle.clock.specs.Structs.{timeOf};
-ghost use Rattle.book.specs.Structs.{timeIn, bookOf};
+ghost use Rattle.meaning.specs.Authorisations.{rowAt};
+ghost use Rattle.setups.specs.Structs.{rowOf};
+ghost use Rattle.book.specs.Structs.{clockIn, rowsIn, bookOf};
 
 pub const NOT_SOUND: u8 = 1;
 
+const MOST_ROWS: u32 = 64;
+
 // The days and the gates closed, for the questions of `clock`.
 pub fn clock_of(b: Book) -> clock::Clock
-    ensures { λ r. ⌜ timeOf r ≡ timeIn b ⌝ }
+    ensures { λ r. ⌜ r ≡ clockIn b ⌝ }
 {
     let s = b.setup;
     let codes = s.codes;
@@ -20,6 +23,27 @@ pub fn clock_of(b: Book) -> clock::Clock
         codes: codes,
         closed: b.closed,
     }
+}
+
+// The authorisation of a number; all zero where the book has none.
+pub fn row_of(b: Book, k: u32) -> setups::Authorisation
+    ensures { λ r. ⌜ rowOf r ≡ rowAt (rowsIn (b .setup)) k ⌝ }
+{
+    let s = b.setup;
+    let mut row = setups::Authorisation {
+        agent1: 0,
+        agent2: 0,
+        account1: 0,
+        account2: 0,
+        key: 0,
+        first: 0,
+        last: 0,
+        amendment: 0,
+    };
+    if (k < s.authorisations as u32) & (k < MOST_ROWS) {
+        row = s.rows[k as usize];
+    }
+    row
 }
 
 // "setup rules hold; gates closed do not exceed the periods; held identifiers differ and name known originators; each volume is in range or the

@@ -1,2 +1,3 @@
--- Laws that the functions' proofs share.
+-- Laws that the functions' proofs share; and that no two outcomes meet one promise.
 pub mod Codes
+pub mod Unique

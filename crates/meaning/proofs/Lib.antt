@@ -24,6 +24,7 @@ pub mod PackedInto
 pub mod EntryValues
 pub mod MessageValues
 pub mod PackedMessageRules
+pub mod PackedCalls
 pub mod EitherWayMessages
 pub mod SetupValues
 pub mod PackedSetupRules

@@ -49,7 +49,7 @@ readable s e =
     }
 
 -- the layout takes 2 bits or more, and no fewer than with no entry
-layout-begins : (s : List ℕ) → 2 ≤ total (layoutIn s)
+pub layout-begins : (s : List ℕ) → 2 ≤ total (layoutIn s)
 unfolding layoutIn layoutFor
 layout-begins s =
     on (kindIn s =? 1) (λ e. rw e (omega arith)) (λ e. rw e (on (kindIn s =? 2) (λ f. rw f (omega arith)) (λ f. rw f (omega arith))))

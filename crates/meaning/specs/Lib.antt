@@ -12,4 +12,5 @@ pub mod Totals
 pub mod Bars
 pub mod Rows
 pub mod PackedMessages
+pub mod PackedCalls
 pub mod PackedSetups

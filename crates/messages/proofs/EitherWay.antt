@@ -90,6 +90,11 @@ few-entries bytes e =
     let g = Values.message-again bytes (r .kind) in
     rw (reading-done bytes a, g .count) (r .count)
 
+-- the struct that `read_message` gives holds the message that the bytes hold
+pub read-message-again : (bytes : List ℕ) → readMessage bytes .answer ≡ 0 → messageOf (messageRead (readMessage bytes) .message) ≡ readMessage bytes .read
+unfolding messageRead
+read-message-again bytes e = message-again (readMessage bytes .read) (few-entries bytes e)
+
 -- THE ROUND TRIPS, of what `write_message` leaves and `read_message` gives
 
 -- for every message that can be written, reading what was written gives it back, settled
@@ -104,4 +109,4 @@ pub read-message-writes : (bytes out : List ℕ) → Bytes bytes → Bytes out �
     → writeMessage (messageOf (messageRead (readMessage bytes) .message)) out
     ≡ record { answer = 0; length = messageRead (readMessage bytes) .length; out = take (messageRead (readMessage bytes) .length) bytes ++ drop (messageRead (readMessage bytes) .length) out }
 unfolding messageRead
-read-message-writes bytes out b c e l = rw (message-again (readMessage bytes .read) (few-entries bytes e)) (read-writes bytes out b c e l)
+read-message-writes bytes out b c e l = rw (read-message-again bytes e) (read-writes bytes out b c e l)

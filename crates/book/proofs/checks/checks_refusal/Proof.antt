@@ -17,7 +17,8 @@ use Rattle.setups.proofs.SetupHeld.{codes-own, rows-own}
 use Rattle.messages.specs.Structs.{notificationOf}
 use Rattle.book.specs.Structs.{timeIn, bookOf}
 use Rattle.book.specs.Checks.{checkRules}
-use Rattle.book.proofs.RuleByRule.{passes, stops}
+use Rattle.laws.proofs.RuleByRule.{passes, stops}
+use Rattle.book.proofs.StateLaws.{clock-time}
 use Rattle.book.proofs.checks.checks_refusal.Statement.{statement}
 use Rattle.book.proofs.checks.checks_refusal.Tie as tie
 
@@ -38,10 +39,10 @@ module _ (s : tie.Start) where
 -- ---- each test is the rule's
 
 gates : (c : tie.After-every-gate-closed) → c .every-gate-closed .result ≡ everyGateClosed (timeIn (c .before .before .before .args .b))
-gates c = c .every-gate-closed .ensures ∙ ap everyGateClosed (c .before .clock-in .ensures)
+gates c = c .every-gate-closed .ensures ∙ ap everyGateClosed (clock-time (c .before .before .before .args .b) (c .before .clock-of .ensures))
 
 today : (c : tie.After-current-day) → c .current-day .result ≡ currentDay (timeIn (c .before .before .before .before .before .before .before .before .before .before .args .b))
-today c = c .current-day .ensures ∙ ap currentDay (c .before .before .before .before .before .before .before .before .clock-in .ensures)
+today c = c .current-day .ensures ∙ ap currentDay (clock-time (c .before .before .before .before .before .before .before .before .before .before .args .b) (c .before .before .before .before .before .before .before .before .clock-of .ensures))
 
 force : (c : tie.After-in-force) → let s = c .before .before .before .before .before .before .before .before .before .before .before in
     not (c .in-force .result) ≡ not (inForce (under (book s) (note s)) (currentDay (timeIn (s .args .b))))
@@ -111,8 +112,8 @@ passed10 c =
     let s = c .before .before .before .before .before .before .before .before .before .before .before .before .before .before .before .before .before .before .before .before .before .before .before .before .before .before in
     passes (rules s) 9 (passed9 (c .before .before)) (sym (c .before .volume-wrong .ensures) ∙ c .if10 .left)
 
-clock-in-requires : tie.Need-clock-in-requires
-clock-in-requires c κs = search needs
+clock-of-requires : tie.Need-clock-of-requires
+clock-of-requires c κs = search needs
 
 every-gate-closed-requires : tie.Need-every-gate-closed-requires
 every-gate-closed-requires c κs = search needs
@@ -218,7 +219,7 @@ pub checks-refusal-spec : {M : Type 1} → statement M
 checks-refusal-spec =
     tie.close
     (tie.spec
-    clock-in-requires
+    clock-of-requires
     every-gate-closed-requires
     returns
     returns-2

@@ -7,7 +7,8 @@ use Rattle.meaning.specs.Time.{Time, periodsAt, dayOf}
 use Rattle.meaning.specs.Notifications.{highestPeriod}
 use Rattle.messages.specs.Structs.{notificationOf}
 use Rattle.book.specs.Structs.{timeIn}
-use Rattle.book.proofs.CheckLaws.{days-few, periods-capped}
+use Rattle.book.proofs.CheckLaws.{periods-capped}
+use Rattle.book.proofs.StateLaws.{clock-time, days-few}
 use Rattle.book.proofs.checks.highest_period.Statement.{statement}
 use Rattle.book.proofs.checks.highest_period.Tie as tie
 
@@ -20,8 +21,8 @@ returns c =
 place-of-requires : tie.Need-place-of-requires
 place-of-requires c κs = search needs
 
-clock-in-requires : tie.Need-clock-in-requires
-clock-in-requires c κs = search needs
+clock-of-requires : tie.Need-clock-of-requires
+clock-of-requires c κs = search needs
 
 periods-at-requires : tie.Need-periods-at-requires
 periods-at-requires c κs = search needs
@@ -35,10 +36,10 @@ returns-2 c =
     let n = a .args .n in
     rw (eq-eqb (n .first) (n .last) (p .before .if1 .left))
     (c .periods-at .ensures
-    ∙ ap (λ (t : Time). periodsAt (t .codes) (p .place-of .result)) (c .before .clock-in .ensures)
+    ∙ ap (λ (t : Time). periodsAt (t .codes) (p .place-of .result)) (clock-time b (c .before .clock-of .ensures))
     ∙ ap (periodsAt (timeIn b .codes)) (p .place-of .ensures)
     ∙ periods-capped (b .setup .days) (b .setup .codes) (dayOf (timeIn b) (n .first)) 255 (omega (arith, days-few b (a .good .0))))
 
 pub highest-period-spec : {M : Type 1} → statement M
 highest-period-spec =
-    tie.close (tie.spec returns place-of-requires clock-in-requires periods-at-requires returns-2)
+    tie.close (tie.spec returns place-of-requires clock-of-requires periods-at-requires returns-2)

@@ -4,6 +4,9 @@ use Rattle.messages.specs.Structs.{notificationOf}
 use Rattle.book.proofs.checks.in_force.Statement.{statement}
 use Rattle.book.proofs.checks.in_force.Tie as tie
 
+cast-row-of : tie.Need-cast-row-of
+cast-row-of c = search needs
+
 row-of-requires : tie.Need-row-of-requires
 row-of-requires c κs = search needs
 
@@ -18,4 +21,4 @@ unfolding notificationOf
 returns c = rw (← c .before .before .row-of .ensures)
 
 pub in-force-spec : {M : Type 1} → statement M
-in-force-spec = tie.close (tie.spec row-of-requires cast-result cast-result-2 returns)
+in-force-spec = tie.close (tie.spec cast-row-of row-of-requires cast-result cast-result-2 returns)

@@ -6,6 +6,9 @@ use Rattle.messages.specs.Structs.{notificationOf}
 use Rattle.book.proofs.checks.key_or_agent_wrong.Statement.{statement}
 use Rattle.book.proofs.checks.key_or_agent_wrong.Tie as tie
 
+cast-row-of : tie.Need-cast-row-of
+cast-row-of c = search needs
+
 row-of-requires : tie.Need-row-of-requires
 row-of-requires c κs = search needs
 
@@ -14,4 +17,4 @@ unfolding keyOrAgentWrong writes notificationOf
 returns c = rw (← c .before .before .before .before .before .before .row-of .ensures)
 
 pub key-or-agent-wrong-spec : {M : Type 1} → statement M
-key-or-agent-wrong-spec = tie.close (tie.spec row-of-requires returns)
+key-or-agent-wrong-spec = tie.close (tie.spec cast-row-of row-of-requires returns)

@@ -8,8 +8,14 @@ use Rattle.book.proofs.CheckLaws.{reference-fits}
 use Rattle.book.proofs.checks.originator_wrong.Statement.{statement}
 use Rattle.book.proofs.checks.originator_wrong.Tie as tie
 
+cast-row-of : tie.Need-cast-row-of
+cast-row-of c = search needs
+
 row-of-requires : tie.Need-row-of-requires
 row-of-requires c κs = search needs
+
+cast-row-of-2 : tie.Need-cast-row-of-2
+cast-row-of-2 c = search needs
 
 row-of-requires-2 : tie.Need-row-of-requires-2
 row-of-requires-2 c κs = search needs
@@ -21,9 +27,9 @@ returns : tie.Need-returns
 unfolding originatorRight notificationOf
 returns c =
     let p = c .before .before .before .before .before .before .before .before in
-    let a = p .before .before .before in
+    let a = p .before .before .before .before .before in
     let n = a .args .n in
-    rw (originator-again (n .originator) (n .reference) (reference-fits n (a .good .1 .0)), rows-own, ← p .before .row-of .ensures, ← p .row-of2 .ensures, ← a .pre)
+    rw (originator-again (n .originator) (n .reference) (reference-fits n (a .good .1 .0)), rows-own, ← p .before .before .row-of .ensures, ← p .row-of2 .ensures, ← a .pre)
 
 pub originator-wrong-spec : {M : Type 1} → statement M
-originator-wrong-spec = tie.close (tie.spec row-of-requires row-of-requires-2 cast-old returns)
+originator-wrong-spec = tie.close (tie.spec cast-row-of row-of-requires cast-row-of-2 row-of-requires-2 cast-old returns)

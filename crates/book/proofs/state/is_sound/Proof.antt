@@ -2,6 +2,7 @@
 use borrow.Author.Needs.{needs}
 use mathlib.Core.Path.{sym, _∙_}
 use denote.Ref.{now}
+use Rattle.book.proofs.StateLaws.{clock-time}
 use Rattle.book.proofs.SoundParts.{sound-refused, sound-parts}
 use Rattle.book.proofs.state.is_sound.Statement.{statement}
 use Rattle.book.proofs.state.is_sound.Tie as tie
@@ -43,7 +44,7 @@ returns-2 c =
     (c .before .side-right .result)
     (c .side-right2 .result)
     (sym (passed .before .opening-refusal .ensures) ∙ passed .if1 .left)
-    (c .before .before .before .before .before .before .clock-of .ensures)
+    (clock-time (a .b) (c .before .before .before .before .before .before .clock-of .ensures))
     (c .before .before .before .before .before .gates-before .ensures)
     (c .before .before .held-right .ensures)
     (c .before .side-right .ensures)

@@ -1,0 +1,16 @@
+-- Laws that the functions' proofs share; the calls in meaning's terms; and that no two outcomes meet one promise.
+pub mod Promises
+pub mod CallLaws
+pub mod KindLaws
+pub mod Volumes
+pub mod DayRuns
+pub mod EffectLaws
+pub mod PairRows
+pub mod NotifyLaws
+pub mod MessageLaws
+pub mod PackedLaws
+pub mod RunLaws
+pub mod Bridge
+pub mod UniqueNullify
+pub mod UniqueNotify
+pub mod UniquePacked

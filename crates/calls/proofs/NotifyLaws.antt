@@ -1,0 +1,171 @@
+-- A notification's answer from its parts, and the tables that an accepted one leaves.
+use mathlib.Core.Bool.{Bool, true, false, not, cond, _&&_}
+use mathlib.Core.List.{List, [], _∷_, _++_}
+use mathlib.Core.Logic.{_≢_}
+use mathlib.Core.Path.{_≡_, refl, sym, ap, _∙_}
+use Prim.Native.Nat.{ℕ, suc, _≤_, _<_}
+use native.Mathlib.Omega.{arith}
+use lib.Dec.{leb, ltb, eqb}
+use lib.IntN.{ℤ}
+use lib.ListN.{length, drop, set}
+use borrow.Author.Tests.{ltb-true, lt-leb, lt-ltb, le-ltb, eqb-true, ne-eqb}
+use Rattle.words.specs.Lists.{find, mapAt}
+use Rattle.words.specs.Rules.{Rule, answer}
+use Rattle.laws.proofs.Cases.{on}
+use Rattle.laws.proofs.Rules.{metAt, answer-none}
+use Rattle.meaning.specs.Time.{Time}
+use Rattle.meaning.specs.Ledgers.{contracts, isHeld, everySlotHeld, slotFor, Side, one, two, side, places}
+use Rattle.meaning.specs.Messages as Messages
+use Rattle.meaning.specs.Messages.{notification, writes, heldAfter, rewritten, written}
+use Rattle.meaning.specs.Books as Meaning
+use Rattle.meaning.specs.Soundness.{sound}
+use Rattle.meaning.specs.Notifications.{under, isReplacement, isAdditional, kindOf, kindNumber, notificationRules, notified}
+use Rattle.meaning.specs.Calls.{Call, message, rulesFor, refusal, act}
+use Rattle.meaning.proofs.SetupRules.{opens}
+use Rattle.meaning.proofs.Sound.{parts}
+use Rattle.calls.specs.Answers.{afterCall, lateRules}
+use Rattle.book.specs.Checks.{checkRules}
+use Rattle.calls.specs.Effects.{slotRule}
+use Rattle.calls.specs.Kinds.{Fits}
+use Rattle.book.specs.Structs.{bookOf}
+use Rattle.book.specs.declared.Book.{Book}
+use Rattle.laws.proofs.RuleByRule.{passes}
+use Rattle.book.proofs.SoundParts.{codes-count}
+use Rattle.calls.proofs.CallLaws.{call-accepted}
+use Rattle.calls.proofs.EffectLaws.{volumesGiven, accepted-side, unwritten-side}
+
+-- ---- its slot
+
+pub slot-own : (held : List ℕ) (i : ℕ) → find (suc i) held < length held → find (suc i) held ≡ slotFor held i
+unfolding slotFor isHeld
+slot-own held i h = rw (lt-ltb (find (suc i) held) (length held) h)
+
+pub slot-new : (held : List ℕ) (i : ℕ) → length held ≤ find (suc i) held → find 0 held ≡ slotFor held i
+unfolding slotFor isHeld
+slot-new held i h = rw (le-ltb (find (suc i) held) (length held) h)
+
+slot-full : (held : List ℕ) (i : ℕ) → not (isHeld held i) && everySlotHeld held ≡ leb (length held) (slotFor held i)
+unfolding slotFor isHeld
+slot-full held i =
+    on (ltb (find (suc i) held) (length held))
+    (λ e. rw e (sym (lt-leb (length held) (find (suc i) held) (ltb-true (find (suc i) held) (length held) e))))
+    (λ e. rw e)
+
+-- ---- two chains, one after the other
+
+joined-refused : (xs ys : List Rule) → answer xs ≢ 0 → answer (xs ++ ys) ≡ answer xs
+unfolding answer
+joined-refused [] ys n = absurd (n refl)
+joined-refused (r ∷ rs) ys n = on (r .met) (λ w. rw w) (λ w. rw w (joined-refused rs ys (rw w at n)))
+
+joined-passed : (xs ys : List Rule) → ((k : ℕ) → metAt xs k ≡ false) → answer (xs ++ ys) ≡ answer ys
+unfolding answer
+joined-passed [] ys h = refl
+joined-passed (r ∷ rs) ys h = rw (h 0) (joined-passed rs ys (λ k. h (suc k)))
+
+-- ---- its answer
+
+module _ (b : Meaning.Book contracts) (n : Messages.Notification contracts) where
+  kind-two : eqb (kindNumber (kindOf b n)) 2 ≡ isReplacement b n
+  unfolding kindOf
+  kind-two = on (isReplacement b n) (λ e. rw e) (λ e. on (isAdditional b n) (λ q. rw (e, q)) (λ q. rw (e, q)))
+
+  replacement-alone : isReplacement b n ≡ true → isAdditional b n ≡ false
+  unfolding isAdditional
+  replacement-alone e = rw e
+
+  kind-three : eqb (kindNumber (kindOf b n)) 3 ≡ isAdditional b n
+  unfolding kindOf
+  kind-three = on (isReplacement b n) (λ e. rw (e, replacement-alone e)) (λ e. on (isAdditional b n) (λ q. rw (e, q)) (λ q. rw (e, q)))
+
+  abbrev pub lateAnswer : ℕ
+  lateAnswer = answer (lateRules (kindNumber (kindOf b n)) (under b n .type) (slotFor (b .ledger .held) (n .identifier)) (length (b .ledger .held)))
+
+  last-three : answer (drop 11 (notificationRules b n)) ≡ lateAnswer
+  unfolding answer notificationRules lateRules
+  last-three = rw (kind-two, kind-three, slot-full (b .ledger .held) (n .identifier))
+
+  pub unsound-answer : sound b ≡ false → answer (notificationRules b n) ≡ 1
+  unfolding answer notificationRules
+  unsound-answer e = rw e
+
+  split : sound b ≡ true → answer (notificationRules b n) ≡ answer (checkRules b n ++ drop 11 (notificationRules b n))
+  unfolding notificationRules checkRules
+  split e = passes (notificationRules b n) 0 refl (ap not e)
+
+  pub early-answer : sound b ≡ true → answer (checkRules b n) ≢ 0 → answer (notificationRules b n) ≡ answer (checkRules b n)
+  early-answer e q = split e ∙ joined-refused (checkRules b n) (drop 11 (notificationRules b n)) q
+
+  checks-passed : answer (checkRules b n) ≡ 0 → (k : ℕ) → metAt (checkRules b n) k ≡ false
+  unfolding checkRules
+  checks-passed e = answer-none (checkRules b n) refl e
+
+  pub late-answer : sound b ≡ true → answer (checkRules b n) ≡ 0 → answer (notificationRules b n) ≡ lateAnswer
+  late-answer e q = split e ∙ joined-passed (checkRules b n) (drop 11 (notificationRules b n)) (checks-passed q) ∙ last-three
+
+  pub late-same : (k t s : ℕ) → k ≡ kindNumber (kindOf b n) → t ≡ under b n .type → s ≡ slotFor (b .ledger .held) (n .identifier)
+      → answer (lateRules k t s (length (b .ledger .held))) ≡ lateAnswer
+  late-same k t s p q r = rw (p, q, r)
+
+  pub notified-refused : (k : ℕ) → answer (notificationRules b n) ≡ k → k ≢ 0 → notified b n ≡ record { answer = k; kind = 0; slot = 0 }
+  unfolding notified
+  notified-refused k e ne = rw (e, ne-eqb k 0 ne)
+
+  pub notified-done : answer (notificationRules b n) ≡ 0
+      → notified b n ≡ record { answer = 0; kind = kindNumber (kindOf b n); slot = slotFor (b .ledger .held) (n .identifier) }
+  unfolding notified
+  notified-done e = rw e
+
+  pub notified-number : notified b n .answer ≡ answer (notificationRules b n)
+  unfolding notified
+  notified-number = on (eqb (answer (notificationRules b n)) 0) (λ e. rw e (sym (eqb-true (answer (notificationRules b n)) 0 e))) (λ e. rw e)
+
+  abbrev pub notificationCall : Call contracts
+  notificationCall = message (notification n)
+
+  pub notification-answer : answer (notificationRules b n) ≡ refusal b notificationCall
+  unfolding rulesFor
+  notification-answer = refl
+
+  -- ---- the tables that it leaves
+
+  module _ (e : answer (notificationRules b n) ≡ 0) where
+    pub held-notified : (slot entry : ℕ) → slot ≡ slotFor (b .ledger .held) (n .identifier) → entry ≡ suc (n .identifier)
+        → set (b .ledger .held) slot entry ≡ afterCall b notificationCall .ledger .held
+    unfolding act written heldAfter
+    held-notified slot entry p q =
+        rw (p, q) (sym (ap (λ (w : Meaning.Book contracts). w .ledger .held) (call-accepted b notificationCall (sym notification-answer ∙ e))))
+
+    acts-side : (σ : Side)
+        → rewritten {K = contracts} (b .rows) (b .time) (notification n) (heldAfter (notification n) (b .ledger .held)) σ (side (b .ledger) σ)
+        ≡ side (act b notificationCall .ledger) σ
+    unfolding act written
+    acts-side one = refl
+    acts-side two = refl
+
+    written-or-not : (σ : Side) (w : Bool) → w ≡ writes (b .rows) n σ
+        → cond w (mapAt (slotRule (b .time) (slotFor (b .ledger .held) (n .identifier)) (n .first) (suc (n .last)) (volumesGiven n)) (side (b .ledger) σ)) (side (b .ledger) σ)
+        ≡ rewritten {K = contracts} (b .rows) (b .time) (notification n) (heldAfter (notification n) (b .ledger .held)) σ (side (b .ledger) σ)
+    written-or-not σ true p = sym (accepted-side b n e σ (side (b .ledger) σ) (sym p))
+    written-or-not σ false p =
+        sym (unwritten-side (b .rows) (b .time) n (b .ledger .held) σ (side (b .ledger) σ) (heldAfter (notification n) (b .ledger .held)) (sym p))
+
+    pub side-notified : (σ : Side) (w : Bool) (t : Time) (slot : ℕ) → w ≡ writes (b .rows) n σ → t ≡ b .time → slot ≡ slotFor (b .ledger .held) (n .identifier)
+        → cond w (mapAt (slotRule t slot (n .first) (suc (n .last)) (volumesGiven n)) (side (b .ledger) σ)) (side (b .ledger) σ)
+        ≡ side (afterCall b notificationCall .ledger) σ
+    side-notified σ w t slot p q r =
+        rw (q, r)
+        (written-or-not σ w p ∙ acts-side σ ∙ sym (ap (λ (z : Meaning.Book contracts). side (z .ledger) σ) (call-accepted b notificationCall (sym notification-answer ∙ e))))
+
+-- ---- a sound book's tables fit it
+
+pub sound-fits : (b : Book) (held : List ℕ) (side1 side2 : List ℤ) → sound (bookOf b held side1 side2) ≡ true → Fits b held side1 side2
+sound-fits b held side1 side2 s =
+    let whole = bookOf b held side1 side2 in
+    let o = opens (Meaning.setupOf whole) (length held) (length side1) (length side2) (parts whole s .setup) in
+    record {
+      days-few = omega (arith, o .few-days, codes-count b);
+      slots-few = o .few-slots;
+      table1 = o .side1 ∙ ap (places (length held)) (codes-count b);
+      table2 = o .side2 ∙ ap (places (length held)) (codes-count b);
+    }

@@ -1,0 +1,163 @@
+-- Between two turns the book is sound, and what is done and what is ahead make up the whole run.
+use borrow.Author.Needs.{needs}
+use borrow.Author.Tests.{ltb-true, ltb-false}
+use mathlib.Core.Bool.{true, false}
+use mathlib.Core.List.{List}
+use mathlib.Core.Path.{_≡_, sym, subst}
+use Prim.Native.Nat.{ℕ, _-_, _≤_, _<_}
+use native.Mathlib.Omega.{arith}
+use lib.Dec.{ltb}
+use lib.ListN.{length, drop, length-set}
+use denote.Ref.{now}
+use Rattle.laws.proofs.Cases.{on, and-left, and-right}
+use Rattle.calls.proofs.Promises.{Applies}
+use Rattle.calls.proofs.RunLaws.{rest-part, Running, running-start, running-last, running-one, takes-some, running-full, running-out}
+use Rattle.calls.proofs.packed.run_known.Statement.{statement}
+use Rattle.calls.proofs.packed.run_known.Tie as tie
+
+abbrev Inv-loop : tie.InvT-loop
+Inv-loop bytes held₀ side1₀ side2₀ answers₀ after₀ used₀ done₀ held side1 side2 answers after used done =
+    Running bytes after₀ held₀ side1₀ side2₀ answers₀ held side1 side2 answers after used done
+
+abbrev μ-loop : tie.MeasureT-loop
+μ-loop bytes held₀ side1₀ side2₀ answers₀ after₀ used₀ done₀ held side1 side2 answers after used done = length answers₀ - done
+
+loop-holds : tie.Need-loop-holds Inv-loop μ-loop
+loop-holds c =
+    let s = c .before .before .before in
+    running-start _ _ _ _ _ _ (s .pre)
+
+module _ (c : tie.In-loop Inv-loop μ-loop) where
+  abbrev start : tie.Start Inv-loop μ-loop
+  start = c .before .before .before .before .before
+
+  room : c .before .loop .done < length (now (start .args .answers))
+  room =
+      let l = c .before .loop in
+      omega (arith, l .inv .answers-length, ltb-true (l .done) (length (l .answers)) (and-left (ltb (l .done) (length (l .answers))) (ltb (l .used) (length (now (start .args .bytes)))) (c .loop-test .taken)))
+
+  more : c .before .loop .used < length (now (start .args .bytes))
+  more =
+      let l = c .before .loop in
+      ltb-true (l .used) (length (now (start .args .bytes))) (and-right (ltb (l .done) (length (l .answers))) (ltb (l .used) (length (now (start .args .bytes)))) (c .loop-test .taken))
+
+module _ (c : tie.After-apply-known Inv-loop μ-loop) where
+  abbrev turn : tie.In-loop Inv-loop μ-loop
+  turn = c .before .before .before .before .before
+
+  promised : let l = turn .before .loop in
+      let left = c .apply-known .last .1 .1 .1 in
+      Applies (l .after) (l .held) (l .side1) (l .side2) (drop (l .used) (now (start turn .args .bytes))) (c .apply-known .result) (left .0) (left .1 .0) (left .1 .1 .0)
+  promised =
+      let l = turn .before .loop in
+      let left = c .apply-known .last .1 .1 .1 in
+      subst
+      (λ (rest : List ℕ). Applies (l .after) (l .held) (l .side1) (l .side2) rest (c .apply-known .result) (left .0) (left .1 .0) (left .1 .1 .0))
+      (rest-part (now (start turn .args .bytes)) (l .used))
+      (c .apply-known .ensures)
+
+sub-apply-known : tie.Need-sub-apply-known Inv-loop μ-loop
+sub-apply-known c = omega (arith, more c)
+
+part-apply-known-start : tie.Need-part-apply-known-start Inv-loop μ-loop
+part-apply-known-start c = omega (arith, more c)
+
+part-apply-known-end : tie.Need-part-apply-known-end Inv-loop μ-loop
+part-apply-known-end c = search needs
+
+apply-known-requires : tie.Need-apply-known-requires Inv-loop μ-loop
+apply-known-requires c κs = sym (c .before .before .before .before .before .loop .inv .is-sound)
+
+slice-write-answers : tie.Need-slice-write-answers Inv-loop μ-loop
+slice-write-answers c =
+    let t = c .before .before .before .before .before .before .before .before .before in
+    omega (arith, room t, t .before .loop .inv .answers-length)
+
+add-done : tie.Need-add-done Inv-loop μ-loop
+add-done c =
+    let t = c .before .before .before .before .before .before .before .before .before in
+    omega (arith, room t, t .before .loop .inv .answers-length)
+
+same-length : tie.Need-same-length Inv-loop μ-loop
+same-length c = search needs
+
+same-length-2 : tie.Need-same-length-2 Inv-loop μ-loop
+same-length-2 c = search needs
+
+same-length-3 : tie.Need-same-length-3 Inv-loop μ-loop
+same-length-3 c = search needs
+
+same-length-4 : tie.Need-same-length-4 Inv-loop μ-loop
+same-length-4 c = search needs
+
+returns : tie.Need-returns Inv-loop μ-loop
+returns c =
+    let told = c .before .before .before .before .before .before .before in
+    let t = turn told in
+    running-last _ _ _ _ _ _ (t .before .loop .inv) (room t) (more t) (told .apply-known .result) _ _ _ (promised told) (c .if1 .taken)
+
+add-used : tie.Need-add-used Inv-loop μ-loop
+add-used c =
+    let told = c .before .before .before .before .before .before .before .before in
+    let t = turn told in
+    let few = takes-some _ _ _ _ _ _ (t .before .loop .inv) (room t) (more t) (told .apply-known .result) _ _ _ (promised told) in
+    omega (arith, few)
+
+loop-less : tie.Need-loop-less Inv-loop μ-loop
+loop-less c =
+    let t = c .before .before .before .before .before .before .before .before .before .before .before .before .before in
+    omega (arith, room t)
+
+loop-again : tie.Need-loop-again Inv-loop μ-loop
+loop-again c =
+    let told = c .before .before .before .before .before .before .before .before in
+    let t = turn told in
+    running-one _ _ _ _ _ _ (t .before .loop .inv) (room t) (more t) (told .apply-known .result) _ _ _ (promised told) (c .before .if1 .left)
+    (told .apply-known .kept .1 .1 .1 .0) (told .apply-known .kept .1 .1 .1 .1 .0) (told .apply-known .kept .1 .1 .1 .1 .1 .0)
+
+same-length-5 : tie.Need-same-length-5 Inv-loop μ-loop
+same-length-5 c = c .before .loop .inv .held-length
+
+same-length-6 : tie.Need-same-length-6 Inv-loop μ-loop
+same-length-6 c = c .before .loop .inv .side1-length
+
+same-length-7 : tie.Need-same-length-7 Inv-loop μ-loop
+same-length-7 c = c .before .loop .inv .side2-length
+
+same-length-8 : tie.Need-same-length-8 Inv-loop μ-loop
+same-length-8 c = c .before .loop .inv .answers-length
+
+returns-2 : tie.Need-returns-2 Inv-loop μ-loop
+returns-2 c =
+    let l = c .before .loop in
+    let s = c .before .before .before .before .before in
+    on (ltb (l .done) (length (l .answers)))
+    (λ e. running-out _ _ _ _ _ _ (l .inv) (ltb-false (l .used) (length (now (s .args .bytes))) (rw e at (c .loop-test .left))))
+    (λ e. running-full _ _ _ _ _ _ (l .inv) (omega (arith, l .inv .answers-length, ltb-false (l .done) (length (l .answers)) e)))
+
+pub run-known-spec : {M : Type 1} → statement M
+run-known-spec =
+    tie.close
+    (tie.spec
+    Inv-loop
+    μ-loop
+    loop-holds
+    sub-apply-known
+    part-apply-known-start
+    part-apply-known-end
+    apply-known-requires
+    slice-write-answers
+    add-done
+    same-length
+    same-length-2
+    same-length-3
+    same-length-4
+    returns
+    add-used
+    loop-less
+    loop-again
+    same-length-5
+    same-length-6
+    same-length-7
+    same-length-8
+    returns-2)

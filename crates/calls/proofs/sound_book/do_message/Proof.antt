@@ -1,0 +1,83 @@
+-- One arm for each kind, by that kind's own promise.
+use borrow.Author.Needs.{needs}
+use mathlib.Core.Path.{_≡_, sym}
+use denote.Ref.{now}
+use Rattle.meaning.specs.Ledgers.{contracts}
+use Rattle.meaning.specs.Books as Meaning
+use Rattle.book.specs.Structs.{bookOf}
+use Rattle.calls.proofs.MessageLaws.{kind-gate, kind-notification, kind-nullification, kind-other, does-gate, does-notification, does-nullification, does-nothing}
+use Rattle.calls.proofs.sound_book.do_message.Statement.{statement}
+use Rattle.calls.proofs.sound_book.do_message.Tie as tie
+
+close-next-requires : tie.Need-close-next-requires
+close-next-requires c κs = search needs
+
+do-notification-requires : tie.Need-do-notification-requires
+do-notification-requires c κs = c .before .before .before .before .before .pre
+
+do-nullification-requires : tie.Need-do-nullification-requires
+do-nullification-requires c κs = c .before .before .before .before .before .pre
+
+returns : tie.Need-returns
+returns c =
+    let s = c .before .before .before in
+    let a = s .args in
+    rw (kind-gate (a .m) (c .before .match .keys1), c .close-next .ensures) (does-gate (a .b) (now (a .held)) (now (a .side1)) (now (a .side2)) (s .pre))
+
+same-length : tie.Need-same-length
+same-length c = search needs
+
+same-length-2 : tie.Need-same-length-2
+same-length-2 c = search needs
+
+same-length-3 : tie.Need-same-length-3
+same-length-3 c = search needs
+
+returns-2 : tie.Need-returns-2
+returns-2 c =
+    let told = c .before .before .before .before in
+    let k = told .before .before .before .before in
+    let a = k .before .before .args in
+    rw (kind-notification (a .m) (k .match .keys2))
+    (does-notification (a .b) (now (a .held)) (now (a .side1)) (now (a .side2)) (a .m) (told .do-notification .result) _ _ _ (told .do-notification .ensures))
+
+same-length-4 : tie.Need-same-length-4
+same-length-4 c = search needs
+
+same-length-5 : tie.Need-same-length-5
+same-length-5 c = search needs
+
+same-length-6 : tie.Need-same-length-6
+same-length-6 c = search needs
+
+returns-3 : tie.Need-returns-3
+returns-3 c =
+    let told = c .before .before in
+    let k = told .before .before .before .before in
+    let a = k .before .before .args in
+    rw (kind-nullification (a .m) (k .match .keys3))
+    (does-nullification (a .b) (now (a .held)) (now (a .side1)) (now (a .side2)) (a .m) (told .do-nullification .result) _ _ (told .do-nullification .ensures))
+
+returns-4 : tie.Need-returns-4
+returns-4 c =
+    let a = c .before .before .args in
+    rw (kind-other (a .m) (c .match .rest .0 .0 .1) (c .match .rest .0 .1) (c .match .rest .1))
+    (does-nothing (a .b) (now (a .held)) (now (a .side1)) (now (a .side2)) _)
+
+pub do-message-spec : {M : Type 1} → statement M
+do-message-spec =
+    tie.close
+    (tie.spec
+    close-next-requires
+    do-notification-requires
+    do-nullification-requires
+    returns
+    same-length
+    same-length-2
+    same-length-3
+    returns-2
+    same-length-4
+    same-length-5
+    same-length-6
+    returns-3
+    returns-4)

@@ -1,0 +1,131 @@
+-- The rules that need no table, then those of kind, type and slot; each by its own function.
+use borrow.Author.Needs.{needs}
+use mathlib.Core.Bool.{true}
+use mathlib.Core.Path.{_≡_, sym, ap, ap₂, _∙_}
+use Prim.Native.Nat.{ℕ}
+use native.Mathlib.Omega.{arith}
+use denote.Ref.{now}
+use Rattle.words.specs.Rules.{answer}
+use Rattle.meaning.specs.Authorisations.{Authorisation}
+use Rattle.meaning.specs.Ledgers.{contracts}
+use Rattle.meaning.specs.Messages as Messages
+use Rattle.meaning.specs.Books as Meaning
+use Rattle.meaning.specs.Soundness.{sound}
+use Rattle.meaning.specs.Notifications.{under, notificationRules}
+use Rattle.messages.specs.Structs.{notificationOf}
+use Rattle.calls.specs.Answers.{notifiedOf}
+use Rattle.book.specs.Checks.{checkRules}
+use Rattle.book.specs.Structs.{bookOf}
+use Rattle.book.proofs.CheckLaws.{checks-need-no-table}
+use Rattle.calls.proofs.EffectLaws.{accepted-slot}
+use Rattle.calls.proofs.NotifyLaws.{early-answer, late-answer, late-same, notified-refused, notified-done, sound-fits}
+use Rattle.calls.proofs.sound_book.judge_notification.Statement.{statement}
+use Rattle.calls.proofs.sound_book.judge_notification.Tie as tie
+
+module _ (s : tie.Start) where
+  abbrev whole : Meaning.Book contracts
+  whole = bookOf (s .args .b) (now (s .args .held)) (now (s .args .side1)) (now (s .args .side2))
+
+  abbrev note : Messages.Notification contracts
+  note = notificationOf (s .args .n)
+
+-- ---- what each part answers, of the whole book
+
+module _ (c : tie.After-checks-refusal) where
+  abbrev start : tie.Start
+  start = c .before .before
+
+  is-sound : sound (whole start) ≡ true
+  is-sound = start .pre
+
+  checks : c .checks-refusal .result ≡ answer (checkRules (whole start) (note start))
+  checks =
+      let a = start .args in
+      c .checks-refusal .ensures ∙ ap answer (sym (checks-need-no-table (a .b) (now (a .held)) (now (a .side1)) (now (a .side2)) (note start)))
+
+module _ (c : tie.After-late-refusal) where
+  abbrev checked : tie.After-checks-refusal
+  checked = c .before .before .before .before .before .before
+
+  type : c .before .before .row-of .result .amendment ≡ under (whole (start checked)) (note (start checked)) .type
+  unfolding notificationOf
+  type = ap (λ (row : Authorisation). row .type) (c .before .before .row-of .ensures)
+
+  late : answer (notificationRules (whole (start checked)) (note (start checked))) ≡ c .late-refusal .result
+  late =
+      let s = start checked in
+      late-answer (whole s) (note s) (is-sound checked) (sym (checks checked) ∙ c .before .before .before .before .before .if1 .left)
+      ∙ sym (c .late-refusal .ensures ∙ late-same (whole s) (note s) (c .before .before .before .before .kind-of .result) (c .before .before .row-of .result .amendment) (c .before .slot-for .result) (c .before .before .before .before .kind-of .ensures) type (c .before .slot-for .ensures))
+
+checks-refusal-requires : tie.Need-checks-refusal-requires
+checks-refusal-requires c κs = search needs
+
+refused-requires : tie.Need-refused-requires
+refused-requires c κs = search needs
+
+returns : tie.Need-returns
+returns c =
+    let p = c .before .before in
+    let s = start p in
+    let number : answer (notificationRules (whole s) (note s)) ≡ p .checks-refusal .result =
+    early-answer (whole s) (note s) (is-sound p) (λ z. c .before .if1 .taken (checks p ∙ z)) ∙ sym (checks p) in
+    c .refused .ensures ∙ ap notifiedOf (sym (notified-refused (whole s) (note s) (p .checks-refusal .result) number (c .before .if1 .taken)))
+
+kind-of-requires : tie.Need-kind-of-requires
+kind-of-requires c κs =
+    let a = start (c .before) .args in
+    sound-fits (a .b) (now (a .held)) (now (a .side1)) (now (a .side2)) (is-sound (c .before))
+
+cast-row-of : tie.Need-cast-row-of
+cast-row-of c = search needs
+
+row-of-requires : tie.Need-row-of-requires
+row-of-requires c κs = search needs
+
+slot-for-requires : tie.Need-slot-for-requires
+slot-for-requires c κs = search needs
+
+late-refusal-requires : tie.Need-late-refusal-requires
+late-refusal-requires c κs = search needs
+
+refused-requires-2 : tie.Need-refused-requires-2
+refused-requires-2 c κs = search needs
+
+returns-2 : tie.Need-returns-2
+returns-2 c =
+    let p = c .before .before in
+    let s = start (checked p) in
+    c .refused2 .ensures ∙ ap notifiedOf (sym (notified-refused (whole s) (note s) (p .late-refusal .result) (late p) (c .before .if2 .taken)))
+
+cast-t14 : tie.Need-cast-t14
+cast-t14 c =
+    let p = c .before in
+    let s = start (checked p) in
+    let a = s .args in
+    let inside = accepted-slot (whole s) (note s) (late p ∙ c .if2 .left) in
+    let few = sound-fits (a .b) (now (a .held)) (now (a .side1)) (now (a .side2)) (is-sound (checked p)) .slots-few in
+    omega (arith, inside, few, p .before .slot-for .ensures)
+
+returns-3 : tie.Need-returns-3
+returns-3 c =
+    let p = c .before in
+    let s = start (checked p) in
+    ap₂ (λ (k slot : ℕ). record { answer = 0; kind = k; slot = slot }) (p .before .before .before .before .kind-of .ensures) (p .before .slot-for .ensures)
+    ∙ ap notifiedOf (sym (notified-done (whole s) (note s) (late p ∙ c .if2 .left)))
+
+pub judge-notification-spec : {M : Type 1} → statement M
+judge-notification-spec =
+    tie.close
+    (tie.spec
+    checks-refusal-requires
+    refused-requires
+    returns
+    kind-of-requires
+    cast-row-of
+    row-of-requires
+    slot-for-requires
+    late-refusal-requires
+    refused-requires-2
+    returns-2
+    cast-t14
+    returns-3)

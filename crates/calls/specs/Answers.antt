@@ -1,0 +1,75 @@
+-- What the calls on a book give with an answer, which is 0 where the call is accepted, and what they leave.
+use mathlib.Core.Bool.{Bool, not, _&&_, _||_}
+use mathlib.Core.List.{List}
+use Prim.Native.Nat.{ℕ}
+use lib.ListN.{length}
+use Rattle.words.specs.Tests.{_<?_, _≤?_, _=?_}
+use Rattle.words.specs.Runs.{step}
+use Rattle.words.specs.Rules.{Rule, _when_else_, done}
+use Rattle.meaning.specs.Time.{nextDay, everyGateClosed}
+use Rattle.meaning.specs.Ledgers.{contracts}
+use Rattle.meaning.specs.Books as Meaning
+use Rattle.meaning.specs.Notifications as Notifications
+use Rattle.meaning.specs.Calls.{Call, accepted, act}
+use Rattle.meaning.specs.History.{event, after}
+use Rattle.meaning.specs.PackedMessages.{Packed}
+use Rattle.meaning.specs.PackedCalls as PackedCalls
+use Rattle.meaning.specs.PackedCalls.{callsOf, answerTo, Run}
+use Rattle.messages.specs.declared.Nullification.{Nullification}
+use Rattle.book.specs.declared.Book.{Book}
+use Rattle.book.specs.declared.Gated.{Gated}
+use Rattle.book.specs.Structs.{timeIn}
+use Rattle.calls.specs.declared.Notified.{Notified}
+use Rattle.calls.specs.declared.Applied.{Applied}
+use Rattle.calls.specs.declared.AppliedAll.{AppliedAll}
+
+-- ---- a call as meaning has it: what an accepted one makes of the book; a refused one changes nothing
+
+abbrev pub afterCall : Meaning.Book contracts → Call contracts → Meaning.Book contracts
+afterCall b c = step accepted act event b c
+
+abbrev pub afterMessage : Meaning.Book contracts → Packed → Meaning.Book contracts
+afterMessage b m = after b (callsOf m)
+
+-- the book by value, its setup as it came and the clock as meaning has it
+abbrev pub bookAt : Book → Meaning.Book contracts → Book
+bookAt b whole = record { setup = b .setup; closed = whole .time .closed }
+
+-- ---- a nullification
+
+-- an account of it is not in the book, or the two are one
+unfoldable pub accountsWrong : Book → Nullification → Bool
+accountsWrong b x = not (x .account <? b .setup .accounts) || not (x .other <? b .setup .accounts) || x .account =? x .other
+
+-- its rules that read no table
+unfoldable pub pairRules : Book → Nullification → List Rule
+pairRules b x =
+    2 when everyGateClosed (timeIn b) else
+    15 when accountsWrong b x else
+    9 when nextDay (timeIn b) ≤? x .first else
+    done
+
+-- ---- a notification
+
+-- the rules that ask for its kind, its authorisation's type, its slot and the number of slots
+unfoldable pub lateRules : ℕ → ℕ → ℕ → ℕ → List Rule
+lateRules kind type slot slots =
+    12 when kind =? 2 && type =? 2 else
+    13 when kind =? 3 && type =? 1 else
+    14 when slots ≤? slot else
+    done
+
+abbrev pub notifiedOf : Notifications.Notified → Notified
+notifiedOf r = record { answer = r .answer; kind = r .kind; slot = r .slot }
+
+-- ---- packed messages
+
+abbrev pub messageDone : Book → Meaning.Book contracts → Packed → Gated
+messageDone b before m = record { answer = answerTo before m; book = bookAt b (afterMessage before m) }
+
+abbrev pub appliedOf : Book → PackedCalls.Applied → Applied
+appliedOf b a = record { answer = a .answer; length = a .length; book = bookAt b (a .book) }
+
+-- a run with its answer
+abbrev pub ranOf : Book → ℕ → Run → AppliedAll
+ranOf b answer run = record { answer = answer; done = length (run .answers); used = run .used; book = bookAt b (run .book) }

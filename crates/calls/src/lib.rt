@@ -1,0 +1,32 @@
+// The calls that messages make on a book by value and its lent tables (meaning, Calls.antt and PackedCalls.antt).
+pub mod notifications; // notifications.rt: a notification's answer, and what it writes
+pub mod nullifications; // nullifications.rt: blanking a pair
+pub mod packed; // packed.rt: a packed message, and a run of packed messages
+mod sound_book; // sound_book.rt: what a book that is known to be sound does with a message
+mod kinds; // kinds.rt: initial, replacement or additional
+mod effects; // effects.rt: what an accepted message makes of one side's table
+
+// The kind is 1 initial, 2 replacement, 3 additional. With a refusal kind and slot are 0.
+#[repr(C)]
+pub struct Notified {
+    pub answer: u8,
+    pub kind: u8,
+    pub slot: u16,
+}
+
+// The length is that of the message, 0 where the bytes are unreadable. With a refusal the book is as it came.
+#[repr(C)]
+pub struct Applied {
+    pub answer: u8,
+    pub length: usize,
+    pub book: book::Book,
+}
+
+// How many answers were given, how many bytes used, and the book after. With a refusal the counts are 0 and the book is as it came.
+#[repr(C)]
+pub struct AppliedAll {
+    pub answer: u8,
+    pub done: usize,
+    pub used: usize,
+    pub book: book::Book,
+}

@@ -1,0 +1,239 @@
+// What a book that is known to be sound does with a message: the private core of every call. The tests of soundness are its callers'.
+use crate::Notified;
+use crate::effects;
+use crate::kinds;
+use book::Book;
+use book::Gated;
+use book::checks;
+use book::gates;
+use book::state;
+ghost use mathlib.Core.Bool.{true, cond};
+ghost use mathlib.Core.Path.{_≡_};
+ghost use Prim.Native.Nat.{ℕ, suc, _<_};
+ghost use Rattle.words.specs.Rules.{answer};
+ghost use Rattle.words.specs.Lists.{build, mapAt};
+ghost use Rattle.meaning.specs.Ledgers.{slotFor};
+ghost use Rattle.meaning.specs.Messages.{notification, nullification, volume};
+ghost use Rattle.meaning.specs.Soundness.{sound};
+ghost use Rattle.meaning.specs.Notifications.{notified};
+ghost use Rattle.meaning.specs.Calls.{message, refusal};
+ghost use Rattle.clock.specs.Structs.{timeOf};
+ghost use Rattle.messages.specs.Structs.{notificationOf, nullificationOf, messageOf};
+ghost use Rattle.book.specs.Structs.{bookOf};
+ghost use Rattle.calls.specs.Answers.{afterCall, afterMessage, lateRules, accountsWrong, pairRules, notifiedOf, messageDone};
+ghost use Rattle.calls.specs.Effects.{slotRule};
+
+const REFERENCES: u32 = 65536;
+
+const FIRST_DAY_AFTER_BOOK: u8 = 9;
+
+const REPLACEMENT_NOT_ALLOWED: u8 = 12;
+
+const ADDITIONAL_NOT_ALLOWED: u8 = 13;
+
+const NO_SLOT: u8 = 14;
+
+const NO_SUCH_ACCOUNT: u8 = 15;
+
+const NO_SUCH_KIND: u8 = 20;
+
+// The entry of `held` that holds its identifier.
+fn entry_of(n: messages::Notification) -> u32
+    ensures { λ r. ⌜ r ≡ suc (notificationOf n .identifier) ⌝ }
+{
+    n.originator as u32 * REFERENCES + n.reference as u32 + 1
+}
+
+// "A new identifier takes the lowest unheld slot."; the number of slots where there is none.
+fn slot_for(held: &[u32], n: messages::Notification) -> usize
+    ensures { λ r. ⌜ r ≡ slotFor (now (held .entry)) (notificationOf n .identifier) ⌝ }
+{
+    let own = ledger::slot_with(held, entry_of(n));
+    if own < held.len() {
+        return own;
+    }
+    ledger::slot_with(held, 0)
+}
+
+// 12, 13 and 14, of its kind, its authorisation's type, its slot and the number of slots.
+fn late_refusal(kind: u8, amendment: u8, slot: usize, slots: usize) -> u8
+    ensures { λ r. ⌜ r ≡ answer (lateRules kind amendment slot slots) ⌝ }
+{
+    if (kind == 2) & (amendment == 2) {
+        return REPLACEMENT_NOT_ALLOWED;
+    }
+    if (kind == 3) & (amendment == 1) {
+        return ADDITIONAL_NOT_ALLOWED;
+    }
+    if slots <= slot {
+        return NO_SLOT;
+    }
+    0
+}
+
+pub fn refused(answer: u8) -> Notified
+    ensures { λ r. ⌜ r ≡ record { answer = answer; kind = 0; slot = 0 } ⌝ }
+{
+    Notified {
+        answer: answer,
+        kind: 0,
+        slot: 0,
+    }
+}
+
+// Its answer with kind and slot, before anything is written.
+pub fn judge_notification(
+    b: Book,
+    n: messages::Notification,
+    held: &[u32],
+    side1: &[i32],
+    side2: &[i32],
+) -> Notified
+    requires { ⌜ sound (bookOf b (now held) (now side1) (now side2)) ≡ true ⌝ }
+    ensures { λ r. ⌜ r ≡ notifiedOf (notified (bookOf b (now (held .entry)) (now (side1 .entry)) (now (side2 .entry))) (notificationOf n)) ⌝ }
+{
+    let early = checks::checks_refusal(b, n);
+    if early != 0 {
+        return refused(early);
+    }
+    let kind = kinds::kind_of(b, held, side1, side2, n);
+    let row = state::row_of(b, n.authorisation as u32);
+    let slot = slot_for(held, n);
+    let late = late_refusal(kind, row.amendment, slot, held.len());
+    if late != 0 {
+        return refused(late);
+    }
+    Notified {
+        answer: 0,
+        kind: kind,
+        slot: slot as u16,
+    }
+}
+
+// A side, where the notification writes it.
+fn write_side(
+    side: &mut [i32],
+    writes: bool,
+    c: clock::Clock,
+    slot: usize,
+    n: messages::Notification,
+)
+    requires { ⌜ slot < 256 ⌝ }
+    ensures { λ r. ⌜ now (side .exit) ≡ cond writes (mapAt (slotRule (timeOf c) slot (n .first) (suc (n .last)) (build 50 (λ (p : ℕ). volume (notificationOf n .entries) (suc p)))) (now (side .entry))) (now (side .entry)) ⌝ }
+{
+    if writes {
+        effects::write_slot(side, c, slot, n.first, n.last, effects::volumes_of(n));
+    }
+}
+
+// The answer, and the three tables with what an accepted notification makes of them.
+pub fn do_notification(
+    b: Book,
+    n: messages::Notification,
+    held: &mut [u32],
+    side1: &mut [i32],
+    side2: &mut [i32],
+) -> Notified
+    requires { ⌜ sound (bookOf b (now held) (now side1) (now side2)) ≡ true ⌝ }
+    ensures { λ r. do
+      let before = bookOf b (now (held .entry)) (now (side1 .entry)) (now (side2 .entry))
+      let call = message (notification (notificationOf n))
+      ⌜ (r ≡ notifiedOf (notified before (notificationOf n))) × (now (held .exit) ≡ afterCall before call .ledger .held) × (now (side1 .exit) ≡ afterCall before call .ledger .side1) × (now (side2 .exit) ≡ afterCall before call .ledger .side2) ⌝ }
+{
+    let told = judge_notification(b, n, held, side1, side2);
+    if told.answer != 0 {
+        return told;
+    }
+    let slot = told.slot as usize;
+    let c = state::clock_of(b);
+    held[slot] = entry_of(n);
+    write_side(side1, kinds::writes_side1(b, n), c, slot, n);
+    write_side(side2, kinds::writes_side2(b, n), c, slot, n);
+    told
+}
+
+// An account is not in the book, or the two are one.
+fn accounts_wrong(b: Book, x: messages::Nullification) -> bool
+    ensures { λ r. ⌜ r ≡ accountsWrong b x ⌝ }
+{
+    let accounts = b.setup.accounts;
+    !(x.account < accounts) | !(x.other < accounts) | (x.account == x.other)
+}
+
+// What refuses a nullification that is not soundness: 2, 15, 9.
+pub fn judge_nullification(b: Book, x: messages::Nullification) -> u8
+    ensures { λ r. ⌜ r ≡ answer (pairRules b x) ⌝ }
+{
+    let c = state::clock_of(b);
+    if clock::every_gate_closed(c) {
+        return gates::EVERY_GATE_CLOSED;
+    }
+    if accounts_wrong(b, x) {
+        return NO_SUCH_ACCOUNT;
+    }
+    if b.setup.first as u32 + b.setup.days as u32 <= x.first as u32 {
+        return FIRST_DAY_AFTER_BOOK;
+    }
+    0
+}
+
+// The answer, and both tables with what an accepted nullification makes of them.
+pub fn do_nullification(
+    b: Book,
+    x: messages::Nullification,
+    held: &[u32],
+    side1: &mut [i32],
+    side2: &mut [i32],
+) -> u8
+    requires { ⌜ sound (bookOf b (now held) (now side1) (now side2)) ≡ true ⌝ }
+    ensures { λ r. do
+      let before = bookOf b (now (held .entry)) (now (side1 .entry)) (now (side2 .entry))
+      let call = message (nullification (nullificationOf x))
+      ⌜ (r ≡ refusal before call) × (now (side1 .exit) ≡ afterCall before call .ledger .side1) × (now (side2 .exit) ≡ afterCall before call .ledger .side2) ⌝ }
+{
+    let answer = judge_nullification(b, x);
+    if answer != 0 {
+        return answer;
+    }
+    effects::blank_pair(side1, held, b, x.account, x.other, x.first);
+    effects::blank_pair(side2, held, b, x.account, x.other, x.first);
+    0
+}
+
+// A message by its kind. A fourth kind is refused by its own number; a reader gives none.
+pub fn do_message(
+    b: Book,
+    m: messages::Message,
+    held: &mut [u32],
+    side1: &mut [i32],
+    side2: &mut [i32],
+) -> Gated
+    requires { ⌜ sound (bookOf b (now held) (now side1) (now side2)) ≡ true ⌝ }
+    ensures { λ r. do
+      let before = bookOf b (now (held .entry)) (now (side1 .entry)) (now (side2 .entry))
+      let left = afterMessage before (messageOf m) .ledger
+      ⌜ (r ≡ messageDone b before (messageOf m)) × (now (held .exit) ≡ left .held) × (now (side1 .exit) ≡ left .side1) × (now (side2 .exit) ≡ left .side2) ⌝ }
+{
+    let kind = m.kind;
+    match kind {
+        0 => gates::close_next(b),
+        1 => {
+            let told = do_notification(b, m.notification, held, side1, side2);
+            Gated {
+                answer: told.answer,
+                book: b,
+            }
+        }
+        2 => {
+            let answer = do_nullification(b, m.nullification, held, side1, side2);
+            Gated {
+                answer: answer,
+                book: b,
+            }
+        }
+        _ => Gated {
+            answer: NO_SUCH_KIND,
+            book: b,
+        },
+    }
+}
