@@ -25,6 +25,8 @@ use Rattle.laws.proofs.Cases.{on}
 use Rattle.laws.proofs.RuleByRule.{passes}
 use Rattle.messages.specs.Structs.{nullificationOf}
 use Rattle.messages.specs.declared.Nullification.{Nullification}
+use Rattle.effects.specs.Effects.{pairBlanked}
+use Rattle.effects.proofs.EffectLaws.{blanked-few}
 use Rattle.calls.specs.Answers.{afterCall, accountsWrong, pairRules}
 use Rattle.book.specs.Structs.{bookOf}
 use Rattle.book.specs.declared.Book.{Book}
@@ -95,8 +97,11 @@ module _ (b : Book) (held : List ℕ) (side1 side2 : List ℤ) where
     unfolding nullificationRules pairRules accountsWrong
     nullification-rest e = passes (nullificationRules (bookOf b held side1 side2) (nullificationOf x)) 0 refl (ap not e)
 
-    pub nullification-side : (σ : Side) → nullificationAnswer ≡ 0
-        → rewritten {K = contracts} (bookOf b held side1 side2 .rows) (bookOf b held side1 side2 .time) (nullification (nullificationOf x)) held σ (side (bookOf b held side1 side2 .ledger) σ)
+    -- as `blank_pair` leaves it
+    pub nullification-side : (σ : Side) → sound (bookOf b held side1 side2) ≡ true → nullificationAnswer ≡ 0
+        → pairBlanked b (x .account) (x .other) (x .first) held σ (side (bookOf b held side1 side2 .ledger) σ)
         ≡ side (afterCall (bookOf b held side1 side2) nullificationCall .ledger) σ
-    nullification-side σ e =
-        acts-side σ ∙ sym (ap (λ (w : Meaning.Book contracts). side (w .ledger) σ) (call-accepted (bookOf b held side1 side2) nullificationCall (sym nullification-answer ∙ e)))
+    nullification-side σ s e =
+        blanked-few b (x .account) (x .other) (x .first) held σ (side (bookOf b held side1 side2 .ledger) σ) (sound-slots s)
+        ∙ acts-side σ
+        ∙ sym (ap (λ (w : Meaning.Book contracts). side (w .ledger) σ) (call-accepted (bookOf b held side1 side2) nullificationCall (sym nullification-answer ∙ e)))

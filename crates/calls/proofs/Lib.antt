@@ -1,11 +1,6 @@
 -- Laws that the functions' proofs share; the calls in meaning's terms; and that no two outcomes meet one promise.
 pub mod Promises
 pub mod CallLaws
-pub mod KindLaws
-pub mod Volumes
-pub mod DayRuns
-pub mod EffectLaws
-pub mod PairRows
 pub mod NotifyLaws
 pub mod MessageLaws
 pub mod PackedLaws

@@ -25,14 +25,15 @@ use Rattle.meaning.proofs.SetupRules.{opens}
 use Rattle.meaning.proofs.Sound.{parts}
 use Rattle.calls.specs.Answers.{afterCall, lateRules}
 use Rattle.book.specs.Checks.{checkRules}
-use Rattle.calls.specs.Effects.{slotRule}
-use Rattle.calls.specs.Kinds.{Fits}
+use Rattle.effects.specs.Effects.{slotRule}
+use Rattle.kinds.specs.Kinds.{Fits, kindAnswer}
+use Rattle.kinds.proofs.KindLaws.{kind-fitting}
 use Rattle.book.specs.Structs.{bookOf}
 use Rattle.book.specs.declared.Book.{Book}
 use Rattle.laws.proofs.RuleByRule.{passes}
 use Rattle.book.proofs.SoundParts.{codes-count}
 use Rattle.calls.proofs.CallLaws.{call-accepted}
-use Rattle.calls.proofs.EffectLaws.{volumesGiven, accepted-side, unwritten-side}
+use Rattle.effects.proofs.EffectLaws.{volumesGiven, accepted-side, unwritten-side}
 
 -- ---- its slot
 
@@ -169,3 +170,8 @@ sound-fits b held side1 side2 s =
       table1 = o .side1 ∙ ap (places (length held)) (codes-count b);
       table2 = o .side2 ∙ ap (places (length held)) (codes-count b);
     }
+
+-- so its kind is found
+pub sound-kind : (b : Book) (held : List ℕ) (side1 side2 : List ℤ) (n : Messages.Notification contracts) → sound (bookOf b held side1 side2) ≡ true
+    → kindAnswer b held side1 side2 n ≡ kindNumber (kindOf (bookOf b held side1 side2) n)
+sound-kind b held side1 side2 n s = kind-fitting b held side1 side2 n (sound-fits b held side1 side2 s)

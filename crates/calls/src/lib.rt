@@ -3,8 +3,6 @@ pub mod notifications; // notifications.rt: a notification's answer, and what it
 pub mod nullifications; // nullifications.rt: blanking a pair
 pub mod packed; // packed.rt: a packed message, and a run of packed messages
 mod sound_book; // sound_book.rt: what a book that is known to be sound does with a message
-mod kinds; // kinds.rt: initial, replacement or additional
-mod effects; // effects.rt: what an accepted message makes of one side's table
 
 // The kind is 1 initial, 2 replacement, 3 additional. With a refusal kind and slot are 0.
 #[repr(C)]

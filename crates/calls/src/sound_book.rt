@@ -1,7 +1,5 @@
 // What a book that is known to be sound does with a message: the private core of every call. The tests of soundness are its callers'.
 use crate::Notified;
-use crate::effects;
-use crate::kinds;
 use book::Book;
 use book::Gated;
 use book::checks;
@@ -9,7 +7,7 @@ use book::gates;
 use book::state;
 ghost use mathlib.Core.Bool.{true, cond};
 ghost use mathlib.Core.Path.{_≡_};
-ghost use Prim.Native.Nat.{ℕ, suc, _<_};
+ghost use Prim.Native.Nat.{ℕ, suc};
 ghost use Rattle.words.specs.Rules.{answer};
 ghost use Rattle.words.specs.Lists.{build, mapAt};
 ghost use Rattle.meaning.specs.Ledgers.{slotFor};
@@ -21,7 +19,7 @@ ghost use Rattle.clock.specs.Structs.{timeOf};
 ghost use Rattle.messages.specs.Structs.{notificationOf, nullificationOf, messageOf};
 ghost use Rattle.book.specs.Structs.{bookOf};
 ghost use Rattle.calls.specs.Answers.{afterCall, afterMessage, lateRules, accountsWrong, pairRules, notifiedOf, messageDone};
-ghost use Rattle.calls.specs.Effects.{slotRule};
+ghost use Rattle.effects.specs.Effects.{slotRule};
 
 const REFERENCES: u32 = 65536;
 
@@ -111,14 +109,7 @@ pub fn judge_notification(
 }
 
 // A side, where the notification writes it.
-fn write_side(
-    side: &mut [i32],
-    writes: bool,
-    c: clock::Clock,
-    slot: usize,
-    n: messages::Notification,
-)
-    requires { ⌜ slot < 256 ⌝ }
+fn write_side(side: &mut [i32], writes: bool, c: clock::Clock, slot: u8, n: messages::Notification)
     ensures { λ r. ⌜ now (side .exit) ≡ cond writes (mapAt (slotRule (timeOf c) slot (n .first) (suc (n .last)) (build 50 (λ (p : ℕ). volume (notificationOf n .entries) (suc p)))) (now (side .entry))) (now (side .entry)) ⌝ }
 {
     if writes {
@@ -147,8 +138,8 @@ pub fn do_notification(
     let slot = told.slot as usize;
     let c = state::clock_of(b);
     held[slot] = entry_of(n);
-    write_side(side1, kinds::writes_side1(b, n), c, slot, n);
-    write_side(side2, kinds::writes_side2(b, n), c, slot, n);
+    write_side(side1, kinds::writes_side1(b, n), c, slot as u8, n);
+    write_side(side2, kinds::writes_side2(b, n), c, slot as u8, n);
     told
 }
 

@@ -16,7 +16,7 @@ use Rattle.book.specs.Structs.{bookOf}
 use Rattle.calls.specs.declared.Notified.{Notified}
 use Rattle.book.proofs.StateLaws.{clock-time}
 use Rattle.calls.proofs.CallLaws.{call-refused, sound-slots}
-use Rattle.calls.proofs.EffectLaws.{accepted-slot}
+use Rattle.effects.proofs.EffectLaws.{accepted-slot}
 use Rattle.calls.proofs.NotifyLaws.{notificationCall, notification-answer, notified-done, notified-number, held-notified, side-notified}
 use Rattle.calls.proofs.sound_book.do_notification.Statement.{statement}
 use Rattle.calls.proofs.sound_book.do_notification.Tie as tie
@@ -100,14 +100,20 @@ slice-write-held c = slot-inside (c .before .before .before)
 writes-side1-requires : tie.Need-writes-side1-requires
 writes-side1-requires c κs = search needs
 
+cast-write-side : tie.Need-cast-write-side
+cast-write-side c = omega (arith, slot-few (c .before .before .before .before .before))
+
 write-side-requires : tie.Need-write-side-requires
-write-side-requires c κs = slot-few (c .before .before .before .before .before)
+write-side-requires c κs = search needs
 
 writes-side2-requires : tie.Need-writes-side2-requires
 writes-side2-requires c κs = search needs
 
+cast-write-side-2 : tie.Need-cast-write-side-2
+cast-write-side-2 c = omega (arith, slot-few (c .before .before .before .before .before .before .before .before .before))
+
 write-side-requires-2 : tie.Need-write-side-requires-2
-write-side-requires-2 c κs = slot-few (c .before .before .before .before .before .before .before .before .before)
+write-side-requires-2 c κs = search needs
 
 same-length-4 : tie.Need-same-length-4
 same-length-4 c = search needs
@@ -148,8 +154,10 @@ do-notification-spec =
     mul-held
     slice-write-held
     writes-side1-requires
+    cast-write-side
     write-side-requires
     writes-side2-requires
+    cast-write-side-2
     write-side-requires-2
     same-length-4
     same-length-5

@@ -1,14 +1,13 @@
 -- A refusal leaves both tables; otherwise each is rewritten, and the other and the identifiers are still what they were.
 use borrow.Author.Needs.{needs}
 use mathlib.Core.Path.{_≡_, sym, ap, _∙_}
-use Prim.Native.Nat.{ℕ, _≤_}
-use lib.ListN.{length}
+use Prim.Native.Nat.{ℕ}
 use denote.Ref.{now}
 use Rattle.meaning.specs.Ledgers.{contracts, one, two}
 use Rattle.meaning.specs.Books as Meaning
 use Rattle.meaning.specs.Calls.{Call, refusal}
 use Rattle.book.specs.Structs.{bookOf}
-use Rattle.calls.proofs.CallLaws.{sound-slots, nullificationCall, nullificationAnswer, nullification-answer, nullification-rest, nullification-side, call-refused}
+use Rattle.calls.proofs.CallLaws.{nullificationCall, nullificationAnswer, nullification-answer, nullification-rest, nullification-side, call-refused}
 use Rattle.calls.proofs.sound_book.do_nullification.Statement.{statement}
 use Rattle.calls.proofs.sound_book.do_nullification.Tie as tie
 
@@ -34,9 +33,6 @@ judged c =
 passed : (c : tie.Else1) → number (c .before .before .before) ≡ 0
 passed c = sym (judged (c .before)) ∙ c .if1 .left
 
-few : (s : tie.Start) → length (now (s .args .held)) ≤ 256
-few s = sound-slots (s .args .b) (now (s .args .held)) (now (s .args .side1)) (now (s .args .side2)) (s .pre)
-
 judge-nullification-requires : tie.Need-judge-nullification-requires
 judge-nullification-requires c κs = search needs
 
@@ -51,10 +47,10 @@ returns c =
     )
 
 blank-pair-requires : tie.Need-blank-pair-requires
-blank-pair-requires c κs = few (c .before .before .before .before)
+blank-pair-requires c κs = search needs
 
 blank-pair-requires-2 : tie.Need-blank-pair-requires-2
-blank-pair-requires-2 c κs = few (c .before .before .before .before .before .before .before)
+blank-pair-requires-2 c κs = search needs
 
 same-length : tie.Need-same-length
 same-length c = search needs
@@ -68,8 +64,8 @@ returns-2 c =
     let s = p .before .before .before in
     let a = s .args in (
       sym (passed p) ∙ same s,
-      c .before .before .before .before .blank-pair .ensures one ∙ nullification-side (a .b) (now (a .held)) (now (a .side1)) (now (a .side2)) (a .x) one (passed p),
-      c .before .blank-pair2 .ensures two ∙ nullification-side (a .b) (now (a .held)) (now (a .side1)) (now (a .side2)) (a .x) two (passed p),
+      c .before .before .before .before .blank-pair .ensures one ∙ nullification-side (a .b) (now (a .held)) (now (a .side1)) (now (a .side2)) (a .x) one (s .pre) (passed p),
+      c .before .blank-pair2 .ensures two ∙ nullification-side (a .b) (now (a .held)) (now (a .side1)) (now (a .side2)) (a .x) two (s .pre) (passed p),
     )
 
 pub do-nullification-spec : {M : Type 1} → statement M

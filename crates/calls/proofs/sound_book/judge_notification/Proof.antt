@@ -11,14 +11,14 @@ use Rattle.meaning.specs.Ledgers.{contracts}
 use Rattle.meaning.specs.Messages as Messages
 use Rattle.meaning.specs.Books as Meaning
 use Rattle.meaning.specs.Soundness.{sound}
-use Rattle.meaning.specs.Notifications.{under, notificationRules}
+use Rattle.meaning.specs.Notifications.{under, kindOf, kindNumber, notificationRules}
 use Rattle.messages.specs.Structs.{notificationOf}
 use Rattle.calls.specs.Answers.{notifiedOf}
 use Rattle.book.specs.Checks.{checkRules}
 use Rattle.book.specs.Structs.{bookOf}
 use Rattle.book.proofs.CheckLaws.{checks-need-no-table}
-use Rattle.calls.proofs.EffectLaws.{accepted-slot}
-use Rattle.calls.proofs.NotifyLaws.{early-answer, late-answer, late-same, notified-refused, notified-done, sound-fits}
+use Rattle.effects.proofs.EffectLaws.{accepted-slot}
+use Rattle.calls.proofs.NotifyLaws.{early-answer, late-answer, late-same, notified-refused, notified-done, sound-fits, sound-kind}
 use Rattle.calls.proofs.sound_book.judge_notification.Statement.{statement}
 use Rattle.calls.proofs.sound_book.judge_notification.Tie as tie
 
@@ -47,6 +47,11 @@ module _ (c : tie.After-late-refusal) where
   abbrev checked : tie.After-checks-refusal
   checked = c .before .before .before .before .before .before
 
+  kind : c .before .before .before .before .kind-of .result ≡ kindNumber (kindOf (whole (start checked)) (note (start checked)))
+  kind =
+      let a = start checked .args in
+      c .before .before .before .before .kind-of .ensures ∙ sound-kind (a .b) (now (a .held)) (now (a .side1)) (now (a .side2)) (note (start checked)) (is-sound checked)
+
   type : c .before .before .row-of .result .amendment ≡ under (whole (start checked)) (note (start checked)) .type
   unfolding notificationOf
   type = ap (λ (row : Authorisation). row .type) (c .before .before .row-of .ensures)
@@ -55,7 +60,7 @@ module _ (c : tie.After-late-refusal) where
   late =
       let s = start checked in
       late-answer (whole s) (note s) (is-sound checked) (sym (checks checked) ∙ c .before .before .before .before .before .if1 .left)
-      ∙ sym (c .late-refusal .ensures ∙ late-same (whole s) (note s) (c .before .before .before .before .kind-of .result) (c .before .before .row-of .result .amendment) (c .before .slot-for .result) (c .before .before .before .before .kind-of .ensures) type (c .before .slot-for .ensures))
+      ∙ sym (c .late-refusal .ensures ∙ late-same (whole s) (note s) (c .before .before .before .before .kind-of .result) (c .before .before .row-of .result .amendment) (c .before .slot-for .result) kind type (c .before .slot-for .ensures))
 
 checks-refusal-requires : tie.Need-checks-refusal-requires
 checks-refusal-requires c κs = search needs
@@ -72,9 +77,7 @@ returns c =
     c .refused .ensures ∙ ap notifiedOf (sym (notified-refused (whole s) (note s) (p .checks-refusal .result) number (c .before .if1 .taken)))
 
 kind-of-requires : tie.Need-kind-of-requires
-kind-of-requires c κs =
-    let a = start (c .before) .args in
-    sound-fits (a .b) (now (a .held)) (now (a .side1)) (now (a .side2)) (is-sound (c .before))
+kind-of-requires c κs = search needs
 
 cast-row-of : tie.Need-cast-row-of
 cast-row-of c = search needs
@@ -110,7 +113,7 @@ returns-3 : tie.Need-returns-3
 returns-3 c =
     let p = c .before in
     let s = start (checked p) in
-    ap₂ (λ (k slot : ℕ). record { answer = 0; kind = k; slot = slot }) (p .before .before .before .before .kind-of .ensures) (p .before .slot-for .ensures)
+    ap₂ (λ (k slot : ℕ). record { answer = 0; kind = k; slot = slot }) (kind p) (p .before .slot-for .ensures)
     ∙ ap notifiedOf (sym (notified-done (whole s) (note s) (late p ∙ c .if2 .left)))
 
 pub judge-notification-spec : {M : Type 1} → statement M

@@ -1,0 +1,6 @@
+-- The laws of runs of places, days and slots, and that no two outcomes meet one promise.
+pub mod Volumes
+pub mod DayRuns
+pub mod EffectLaws
+pub mod PairRows
+pub mod Unique

@@ -1,0 +1,30 @@
+-- An unheld slot has no pair, a held one that of its originating authorisation.
+use borrow.Author.Needs.{needs}
+use mathlib.Core.Path.{sym, ap, _∙_}
+use Rattle.meaning.specs.Authorisations.{Authorisation, isPair}
+use Rattle.setups.specs.Structs.{rowsOf}
+use Rattle.effects.proofs.PairRows.{pair-unheld, pair-held}
+use Rattle.effects.proofs.of_pair.Statement.{statement}
+use Rattle.effects.proofs.of_pair.Tie as tie
+
+returns : tie.Need-returns
+returns c =
+    let a = c .before .args in
+    sym (pair-unheld (rowsOf (a .b .setup .authorisations) (a .b .setup .rows)) (a .account) (a .other) (a .entry) (c .if1 .taken))
+
+sub-row-of : tie.Need-sub-row-of
+sub-row-of c = search needs
+
+row-of-requires : tie.Need-row-of-requires
+row-of-requires c κs = search needs
+
+returns-2 : tie.Need-returns-2
+unfolding isPair
+returns-2 c =
+    let p = c .before .before .before .before in
+    let a = p .before .before .args in
+    let rows = rowsOf (a .b .setup .authorisations) (a .b .setup .rows) in
+    sym (pair-held rows (a .account) (a .other) (a .entry) (p .before .if1 .left) ∙ ap (λ (r : Authorisation). isPair r (a .account) (a .other)) (sym (p .row-of .ensures)))
+
+pub of-pair-spec : {M : Type 1} → statement M
+of-pair-spec = tie.close (tie.spec returns sub-row-of row-of-requires returns-2)

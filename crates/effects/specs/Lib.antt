@@ -1,0 +1,2 @@
+-- What an accepted message makes of the places of a side.
+pub mod Effects
