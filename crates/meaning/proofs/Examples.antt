@@ -1,4 +1,5 @@
--- Beside document 01's table: the sheet program's five messages, and the two of its "Easy to get wrong" that the table does not show.
+-- Beside document 01's table: the sheet program's five messages, the two of its "Easy to get wrong" that the table does not show, and the story
+-- that began it all.
 use mathlib.Core.Path.{_≡_, refl}
 use mathlib.Core.Bool.{Bool, true, _&&_}
 use mathlib.Core.List.{List, [], _∷_}
@@ -12,10 +13,10 @@ use Rattle.meaning.specs.Messages.{Entry, notification}
 use Rattle.meaning.specs.Books.{Book, openedBook}
 use Rattle.meaning.specs.Calls.{Call, gate, message, refusal}
 use Rattle.meaning.specs.History.{after}
-use Rattle.meaning.specs.Totals.{sumOf}
+use Rattle.meaning.specs.Totals.{sumOf, sold, bought}
 use Rattle.meaning.specs.Bars.{seenBar}
 use Rattle.meaning.proofs.Opened as Opened
-use Rattle.meaning.proofs.Stories.{_/₁_, has, oneSided, alike}
+use Rattle.meaning.proofs.Stories.{_/₁_, has, oneSided, agreed, alike}
 
 -- ---- the sheet program: one day 100 of 48, accounts 0 and 1, one authorisation, 16 slots
 
@@ -79,3 +80,24 @@ zeroIsNotNothing = refl
 pub omittedIsZero : oneSided (seenBar (after sheet (say 7 500 (entry 1 (pos 5000) ∷ entry 2 (pos 5000) ∷ []) ∷ say 7 500 (entry 1 (pos 5000) ∷ []) ∷ [])) (0 /₁ 1) 0 100 2) (pos 0) ≡ true
 unfolding Opened.opened
 omittedIsZero = refl
+
+-- ---- the user's own story: his client sits on side 2 and sells 5 MWh in period 35; agent 9 says so for him, and agent 7 for the other side
+
+abbrev sale : Book contracts
+sale = after sheet (say 9 500 (entry 35 (negℤ (pos 5000)) ∷ []) ∷ say 7 500 (entry 35 (negℤ (pos 5000)) ∷ []) ∷ [])
+
+-- the client, account 1, sees it above the line and the other account below; totals and day figures say the same
+abbrev rightWayUp : Bool
+rightWayUp =
+    agreed (seenBar sale (0 /₁ 1) 1 100 35) (pos 5000)
+    && agreed (seenBar sale (0 /₁ 1) 0 100 35) (negℤ (pos 5000))
+    && has sale 1 100 35 (pos 5000)
+    && has sale 0 100 35 (negℤ (pos 5000))
+    && sameℤ (sold sale 1 0) (pos 5000)
+    && sameℤ (bought sale 1 0) (pos 0)
+    && sameℤ (sold sale 0 0) (pos 0)
+    && sameℤ (bought sale 0 0) (pos 5000)
+
+pub clientOnSideTwoSells : rightWayUp ≡ true
+unfolding Opened.opened
+clientOnSideTwoSells = refl

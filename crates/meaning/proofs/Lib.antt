@@ -20,6 +20,7 @@ pub mod Counted
 pub mod Totals
 pub mod Figures
 pub mod Bars
+pub mod Shown
 pub mod PackedInto
 pub mod EntryValues
 pub mod MessageValues

@@ -64,6 +64,12 @@ oneSided (OneSide x) v = sameℤ x v
 oneSided (Agreed x) v = false
 oneSided (Disagreed x y) v = false
 
+abbrev pub agreed : Bar ℤ → ℤ → Bool
+agreed Blank v = false
+agreed (OneSide x) v = false
+agreed (Agreed x) v = sameℤ x v
+agreed (Disagreed x y) v = false
+
 abbrev pub alike {ℓ} : {A : Type ℓ} → (A → A → Bool) → List A → List A → Bool
 alike f [] [] = true
 alike f [] (y ∷ ys) = false
