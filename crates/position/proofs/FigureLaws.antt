@@ -1,0 +1,109 @@
+-- The parts above and below zero, their bounds, and the conversion to MWh.
+use mathlib.Core.Bool.{Bool, true, false, true≢false}
+use mathlib.Core.List.{List}
+use mathlib.Core.Logic.{_≢_}
+use mathlib.Core.Path.{_≡_, refl, sym, ap, _∙_}
+use Prim.Native.Nat.{ℕ, suc, _+_, _^_, _≤_, _<_}
+use native.Mathlib.Nat.{le-refl}
+use native.Mathlib.Omega.{arith}
+use lib.Count.{trailingZeros}
+use lib.Dec.{T, eqb, le→leb, lt→ltb}
+use lib.Ieee.{fin, binary64, ofBits, ofFields, odd, inFloat}
+use lib.IntN.{ℤ, pos, negsuc, negℤ, natAbs, _-ℤ_}
+use lib.ListN.{getD}
+use lib.Signed.{ltZ}
+use mir.Syntax.{w64}
+use mir.Val.{SFits}
+use borrow.Author.Tests.{ltb-true, ne-eqb}
+use Rattle.laws.proofs.Machine.{abs-fits}
+use Rattle.laws.proofs.Whole.{abs-neg, abs-add, zero-less}
+use Rattle.laws.proofs.Sums.{sum-ext}
+use Rattle.words.specs.Below.{sumBelowℤ}
+use Rattle.words.specs.Rules.{answer}
+use Rattle.meaning.specs.Time.{dayOf}
+use Rattle.meaning.specs.Books as Meaning
+use Rattle.meaning.specs.Authorisations.{Authorisation}
+use Rattle.meaning.specs.Ledgers.{contracts, index, originIn}
+use Rattle.meaning.specs.Totals.{counted, aboveZero, belowZero, daySum, sold, bought, figuresRules, figures}
+use Rattle.book.specs.declared.Book.{Book}
+use Rattle.book.specs.Structs.{rowsIn, bookOf}
+use Rattle.position.proofs.TotalLaws.{counted-by-place, Asked}
+use Rattle.position.specs.Counting.{countedAt, partOf, figuresFor}
+use Rattle.position.specs.Totals.{figured}
+
+-- ---- what is below zero, negated; and what is above
+
+pub below-negated : (z : ℤ) → ltZ z (pos 0) ≡ true → pos 0 -ℤ z ≡ belowZero z
+below-negated (pos n) e = absurd (omega (arith, ltb-true n 0 e))
+below-negated (negsuc n) e = zero-less (negsuc n)
+
+pub below-none : (z : ℤ) → ltZ z (pos 0) ≡ false → pos 0 ≡ belowZero z
+below-none (pos n) e = refl
+below-none (negsuc n) e = absurd (true≢false e)
+
+pub above-none : (z : ℤ) → ltZ z (pos 0) ≡ true → pos 0 ≡ aboveZero z
+above-none (pos n) e = absurd (omega (arith, ltb-true n 0 e))
+above-none (negsuc n) e = refl
+
+pub above-all : (z : ℤ) → ltZ z (pos 0) ≡ false → z ≡ aboveZero z
+above-all (pos n) e = refl
+above-all (negsuc n) e = absurd (true≢false e)
+
+pub part-small : (below : Bool) (z : ℤ) → natAbs (partOf below z) ≤ natAbs z
+unfolding partOf
+part-small true (pos n) = omega arith
+part-small true (negsuc n) = le-refl (suc n)
+part-small false (pos n) = le-refl n
+part-small false (negsuc n) = omega arith
+
+-- a slot's parts over the periods of a day, by their places in the tables
+place-next : (n slot d first p : ℕ) → first ≡ index n slot d 1 → first + p ≡ index n slot d (suc p)
+unfolding index
+place-next n slot d first p e = omega (arith, e)
+
+pub slot-parts : (b : Book) (held : List ℕ) (side1 side2 : List ℤ) (account d slot periods : ℕ) (below : Bool) (origin : Authorisation) (first : ℕ)
+    → origin ≡ originIn (rowsIn (b .setup)) (getD held slot 0) → first ≡ index (b .setup .days) slot d 1
+    → sumBelowℤ periods (λ (p : ℕ). partOf below (countedAt origin account side1 side2 (first + p)))
+    ≡ sumBelowℤ periods (λ (p : ℕ). partOf below (counted (bookOf b held side1 side2) account d (suc p) slot))
+slot-parts b held side1 side2 account d slot periods below origin first o f =
+    sum-ext periods (λ (p : ℕ). partOf below (countedAt origin account side1 side2 (first + p))) (λ (p : ℕ). partOf below (counted (bookOf b held side1 side2) account d (suc p) slot))
+    (λ p h. ap (partOf below)
+    ((λ i. countedAt (o i) account side1 side2 (place-next (b .setup .days) slot d first p f i)) ∙ sym (counted-by-place b held side1 side2 account d p slot)))
+
+-- ---- differences
+
+pub abs-difference : (a b : ℤ) → natAbs (a -ℤ b) ≤ natAbs a + natAbs b
+abs-difference a b = omega (arith, abs-add a (negℤ b), abs-neg b)
+
+pub negated-fits : (z : ℤ) → natAbs z ≤ 2147483648 → SFits w64 (pos 0 -ℤ z)
+negated-fits z h = rw (zero-less z) (abs-fits {w = w64} {z = negℤ z} (omega (arith, abs-neg z)))
+
+pub net-fits : (a b : ℤ) → natAbs a ≤ 27487790694400 → natAbs b ≤ 27487790694400 → SFits w64 (a -ℤ b)
+net-fits a b h k = abs-fits {w = w64} {z = a -ℤ b} (omega (arith, abs-difference a b))
+
+-- ---- MWh
+
+-- the code's 1000.0 is 125 * 2 ^ 3
+pub thousand : ofBits binary64 0x408f400000000000 ≡ fin false 125 (pos 3)
+unfolding ofBits ofFields odd trailingZeros
+thousand = refl
+
+-- a whole number below 2 ^ 53 is converted exactly
+pub exact : (z : ℤ) → natAbs z < 2 ^ 53 → T (inFloat binary64 z)
+unfolding inFloat
+exact (pos n) h = le→leb n (2 ^ 53) (omega arith)
+exact (negsuc n) h = lt→ltb n (2 ^ 53) (omega arith)
+
+-- ---- what the question gives
+
+module _ (b : Meaning.Book contracts) (account D : ℕ) where
+  pub figures-refused : (n : ℕ) → n ≡ answer (figuresRules b account D) → n ≢ 0 → record { answer = n; day = figuresFor (pos 0) (pos 0) } ≡ figured b account D
+  unfolding figured figures figuresFor
+  figures-refused n e z =
+      let r : eqb (answer (figuresRules b account D)) 0 ≡ false = ne-eqb (answer (figuresRules b account D)) 0 (λ q. z (e ∙ q)) in
+      rw (e, r)
+
+  pub figures-given : Asked b account D
+      → record { answer = 0; day = figuresFor (daySum (partOf false) b account (dayOf (b .time) D)) (daySum (partOf true) b account (dayOf (b .time) D)) } ≡ figured b account D
+  unfolding answer figuresRules figured figures figuresFor sold bought partOf
+  figures-given a = rw (a .is-sound, a .has-account, a .has-day)

@@ -1,0 +1,5 @@
+-- The laws that the functions of `position` are proved by, what the answers are worth, and that each promise has one outcome.
+pub mod TotalLaws
+pub mod FigureLaws
+pub mod TotalTheorems
+pub mod UniqueTotals

@@ -1,0 +1,19 @@
+-- The whole number is small enough to be converted exactly.
+use mathlib.Core.Path.{ap, ap₂}
+use lib.Ieee.{binary64, ofInt, div}
+use mir.Facts.{toZ-ofZ}
+use mir.Syntax.{w64}
+use Rattle.meaning.specs.Totals.{mwh}
+use Rattle.position.proofs.FigureLaws.{thousand, exact}
+use Rattle.position.proofs.figures.mwh.Statement.{statement}
+use Rattle.position.proofs.figures.mwh.Tie as tie
+
+int-to-float-result : tie.Need-int-to-float-result
+int-to-float-result c = let s = c .before in rw (toZ-ofZ {w = w64} (s .fits .kwh)) (exact (s .args .kwh) (s .pre))
+
+returns : tie.Need-returns
+unfolding mwh
+returns c = ap₂ (div binary64) (ap (ofInt binary64) (toZ-ofZ {w = w64} (c .before .fits .kwh))) thousand
+
+pub mwh-spec : {M : Type 1} → statement M
+mwh-spec = tie.close (tie.spec int-to-float-result returns)

@@ -1,0 +1,118 @@
+// What a slot counts for an account: matched volumes only, plus for account 1, minus for account 2; and when a question of a day is refused.
+ghost use mathlib.Core.Path.{_≡_};
+ghost use Prim.Native.Nat.{suc, _≤_};
+ghost use lib.IntN.{pos, natAbs};
+ghost use lib.ListN.{getD};
+ghost use Rattle.words.specs.Rules.{answer};
+ghost use Rattle.meaning.specs.Ledgers.{index, originIn};
+ghost use Rattle.meaning.specs.Totals.{matches, seenBy, figuresRules};
+ghost use Rattle.setups.specs.Structs.{rowOf};
+ghost use Rattle.book.specs.Structs.{rowsIn, bookOf};
+ghost use Rattle.position.specs.Counting.{countedAt};
+
+const NO_SUCH_ACCOUNT: u8 = 15;
+
+const NO_SUCH_DAY: u8 = 16;
+
+const REFERENCES: u32 = 65536;
+
+const PLACES_A_DAY: usize = 50;
+
+// The originating authorisation of the identifier that an entry of `held` holds; all zero where it holds none.
+pub fn origin_of(b: book::Book, entry: u32) -> setups::Authorisation
+    ensures { λ r. ⌜ rowOf r ≡ originIn (rowsIn (b .setup)) entry ⌝ }
+{
+    if entry == 0 {
+        return setups::Authorisation {
+            agent1: 0,
+            agent2: 0,
+            account1: 0,
+            account2: 0,
+            key: 0,
+            first: 0,
+            last: 0,
+            amendment: 0,
+        };
+    }
+    book::state::row_of(b, (entry - 1) / REFERENCES)
+}
+
+// Where a side's table has a slot's volume on the day at place d in the period at place p, both from 0.
+pub fn place_of(slot: u8, days: u8, d: u8, p: u8) -> usize
+    ensures { λ r. ⌜ r ≡ index days slot d (suc p) ⌝ }
+{
+    (slot as usize * days as usize + d as usize) * PLACES_A_DAY + p as usize
+}
+
+// What stands at a place of a side's table. Past its end it is 0, so that no reader owes an index.
+fn volume_at(side: &[i32], place: usize) -> i32
+    ensures { λ r. ⌜ r ≡ getD (now (side .entry)) place (pos 0) ⌝ }
+{
+    if place < side.len() {
+        return side[place];
+    }
+    0
+}
+
+// "A period matches when both sides stand and are equal."
+fn is_matched(v: i32, w: i32) -> bool
+    ensures { λ r. ⌜ r ≡ matches v w ⌝ }
+{
+    ledger::states(v) & ledger::states(w) & (v == w)
+}
+
+// kWh as they stand for account 1, negated as a whole number for account 2, nothing for any other.
+fn seen_by(row: setups::Authorisation, account: u8, v: i32) -> i64
+    ensures { λ r. ⌜ r ≡ seenBy (rowOf row) account v ⌝ }
+{
+    if account == row.account1 {
+        return v as i64;
+    }
+    if account == row.account2 {
+        return -(v as i64);
+    }
+    0
+}
+
+// What a place counts for an account, where its slot's identifier has this originating authorisation.
+pub fn counted_at(
+    row: setups::Authorisation,
+    account: u8,
+    side1: &[i32],
+    side2: &[i32],
+    place: usize,
+) -> i64
+    ensures { λ r. ⌜ (r ≡ countedAt (rowOf row) account (now (side1 .entry)) (now (side2 .entry)) place) × (natAbs r ≤ 2147483648) ⌝ }
+{
+    let v = volume_at(side1, place);
+    let w = volume_at(side2, place);
+    if !is_matched(v, w) {
+        return 0;
+    }
+    seen_by(row, account, v)
+}
+
+// The number that refuses a question of an account's day: 1, 15 or 16; 0 where none does.
+pub fn day_refusal(
+    b: book::Book,
+    held: &[u32],
+    side1: &[i32],
+    side2: &[i32],
+    account: u8,
+    day: u16,
+) -> u8
+    ensures { λ r. ⌜ r ≡ answer (figuresRules (bookOf b (now (held .entry)) (now (side1 .entry)) (now (side2 .entry))) account day) ⌝ }
+{
+    if !book::state::is_sound(b, held, side1, side2) {
+        return book::state::NOT_SOUND;
+    }
+    let s = b.setup;
+    if s.accounts <= account {
+        return NO_SUCH_ACCOUNT;
+    }
+    let c = book::state::clock_of(b);
+    if !clock::has_day(c, day) {
+        return NO_SUCH_DAY;
+    }
+    0
+}

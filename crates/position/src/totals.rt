@@ -1,0 +1,147 @@
+// "Totals count matched volumes only, plus for account 1, minus for account 2." One period's, or all of a day's at once.
+use crate::Totalled;
+use crate::counting;
+ghost use mathlib.Core.Path.{_≡_};
+ghost use Prim.Native.Nat.{suc, _≤_};
+ghost use lib.ListN.{length};
+ghost use Rattle.words.specs.Lists.{mapAt};
+ghost use Rattle.words.specs.Rules.{answer};
+ghost use Rattle.meaning.specs.Time.{periodsAt};
+ghost use Rattle.meaning.specs.Totals.{sumOf};
+ghost use Rattle.book.specs.Structs.{timeIn, bookOf};
+ghost use Rattle.position.specs.Counting.{sumAnswered, daySums};
+ghost use Rattle.position.specs.Totals.{totalled, dayTotalRules, dayTotals};
+
+const NO_SUCH_PERIOD: u8 = 16;
+
+const NO_ROOM: u8 = 24;
+
+const TOO_LARGE: u8 = 26;
+
+const LEAST_TOTAL: i64 = -99999999999;
+
+const MOST_TOTAL: i64 = 99999999999;
+
+// A sum as it is answered: 26 in its place where it has more than 11 digits.
+fn answered(kwh: i64) -> Totalled
+    ensures { λ r. ⌜ r ≡ sumAnswered kwh ⌝ }
+{
+    if (LEAST_TOTAL <= kwh) & (kwh <= MOST_TOTAL) {
+        return Totalled {
+            answer: 0,
+            kwh: kwh,
+        };
+    }
+    Totalled {
+        answer: TOO_LARGE,
+        kwh: 0,
+    }
+}
+
+// What all slots count together on the day at place d in the period at place p, both from 0. A sound book's slots are few, so the sum fits.
+fn sum_of(
+    b: book::Book,
+    held: &[u32],
+    side1: &[i32],
+    side2: &[i32],
+    account: u8,
+    d: u8,
+    p: u8,
+) -> i64
+    requires { ⌜ length (now held) ≤ 256 ⌝ }
+    ensures { λ r. ⌜ r ≡ sumOf (bookOf b (now (held .entry)) (now (side1 .entry)) (now (side2 .entry))) account d (suc p) ⌝ }
+{
+    let s = b.setup;
+    let mut kwh: i64 = 0;
+    let mut slot: usize = 0;
+    while slot < held.len() {
+        let entry = held[slot];
+        let row = counting::origin_of(b, entry);
+        let place = counting::place_of(slot as u8, s.days, d, p);
+        kwh += counting::counted_at(row, account, side1, side2, place);
+        slot += 1;
+    }
+    kwh
+}
+
+// The answer to an account's total in one period, and the total; 0 with a refusal.
+pub fn total(
+    b: book::Book,
+    held: &[u32],
+    side1: &[i32],
+    side2: &[i32],
+    account: u8,
+    day: u16,
+    period: u8,
+) -> Totalled
+    ensures { λ r. ⌜ r ≡ totalled (bookOf b (now (held .entry)) (now (side1 .entry)) (now (side2 .entry))) account day period ⌝ }
+{
+    let refusal = counting::day_refusal(b, held, side1, side2, account, day);
+    if refusal != 0 {
+        return Totalled {
+            answer: refusal,
+            kwh: 0,
+        };
+    }
+    let s = b.setup;
+    let d = (day - s.first) as u8;
+    let c = book::state::clock_of(b);
+    if !clock::is_period_at(c, d, period) {
+        return Totalled {
+            answer: NO_SUCH_PERIOD,
+            kwh: 0,
+        };
+    }
+    answered(sum_of(b, held, side1, side2, account, d, period - 1))
+}
+
+// Every period of the day at place d: one pass over what is lent.
+fn store_totals(
+    b: book::Book,
+    held: &[u32],
+    side1: &[i32],
+    side2: &[i32],
+    account: u8,
+    d: u8,
+    out: &mut [i64],
+)
+    requires { ⌜ (length (now held) ≤ 256) × (periodsAt (timeIn b .codes) d ≤ length (now out)) ⌝ }
+    ensures { λ r. ⌜ now (out .exit) ≡ mapAt (daySums (bookOf b (now (held .entry)) (now (side1 .entry)) (now (side2 .entry))) account d) (now (out .entry)) ⌝ }
+{
+    let periods = clock::periods_at(book::state::clock_of(b), d);
+    let mut p: u8 = 0;
+    while p < periods {
+        let t = answered(sum_of(b, held, side1, side2, account, d, p));
+        let kwh = t.kwh;
+        out[p as usize] = kwh;
+        p += 1;
+    }
+}
+
+// The answer to all of an account's totals on a day, each stored at its period's place of `out`, from 0; a refusal changes nothing.
+pub fn day_totals(
+    b: book::Book,
+    held: &[u32],
+    side1: &[i32],
+    side2: &[i32],
+    account: u8,
+    day: u16,
+    out: &mut [i64],
+) -> u8
+    ensures { λ r. do
+      let before = bookOf b (now (held .entry)) (now (side1 .entry)) (now (side2 .entry))
+      ⌜ (r ≡ answer (dayTotalRules before account day (length (now (out .entry))))) × (now (out .exit) ≡ dayTotals before account day (now (out .entry))) ⌝ }
+{
+    let refusal = counting::day_refusal(b, held, side1, side2, account, day);
+    if refusal != 0 {
+        return refusal;
+    }
+    let s = b.setup;
+    let d = (day - s.first) as u8;
+    let periods = clock::periods_at(book::state::clock_of(b), d);
+    if out.len() < periods as usize {
+        return NO_ROOM;
+    }
+    store_totals(b, held, side1, side2, account, d, out);
+    0
+}
