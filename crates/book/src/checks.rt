@@ -1,5 +1,6 @@
 // What can be wrong with a notification that needs no table: refusals 2 to 11 (meaning, Notifications.antt), for any book, sound or not.
 use crate::Book;
+use crate::numbers;
 use crate::state;
 ghost use mathlib.Core.Bool.{not};
 ghost use mathlib.Core.List.{[]};
@@ -13,26 +14,6 @@ ghost use Rattle.meaning.specs.Notifications.{under, keyOrAgentWrong, originato
 ghost use Rattle.messages.specs.Structs.{notificationOf};
 ghost use Rattle.book.specs.Structs.{timeIn, bookOf};
 ghost use Rattle.book.specs.Checks.{checkRules};
-
-const EVERY_GATE_CLOSED: u8 = 2;
-
-const NO_AUTHORISATION: u8 = 3;
-
-const KEY_OR_AGENT_WRONG: u8 = 4;
-
-const NOT_IN_FORCE: u8 = 5;
-
-const ORIGINATOR_WRONG: u8 = 6;
-
-const LAST_BEFORE_FIRST: u8 = 7;
-
-const LAST_DAY_PAST: u8 = 8;
-
-const FIRST_DAY_AFTER_BOOK: u8 = 9;
-
-const PERIOD_WRONG: u8 = 10;
-
-const VOLUME_WRONG: u8 = 11;
 
 const MOST_ENTRIES: u8 = 50;
 
@@ -156,35 +137,35 @@ pub fn checks_refusal(b: Book, n: messages::Notification) -> u8
     let s = b.setup;
     let time = state::clock_of(b);
     if clock::every_gate_closed(time) {
-        return EVERY_GATE_CLOSED;
+        return numbers::EVERY_GATE_CLOSED;
     }
     if s.authorisations <= n.authorisation {
-        return NO_AUTHORISATION;
+        return numbers::NO_AUTHORISATION;
     }
     if key_or_agent_wrong(b, n) {
-        return KEY_OR_AGENT_WRONG;
+        return numbers::KEY_OR_AGENT_WRONG;
     }
     let today = clock::current_day(time);
     if !in_force(b, n, today) {
-        return NOT_IN_FORCE;
+        return numbers::NOT_IN_FORCE;
     }
     if originator_wrong(b, n, today) {
-        return ORIGINATOR_WRONG;
+        return numbers::ORIGINATOR_WRONG;
     }
     if n.last < n.first {
-        return LAST_BEFORE_FIRST;
+        return numbers::LAST_BEFORE_FIRST;
     }
     if (n.last as u32) < today {
-        return LAST_DAY_PAST;
+        return numbers::LAST_DAY_PAST;
     }
     if s.first as u32 + s.days as u32 <= n.first as u32 {
-        return FIRST_DAY_AFTER_BOOK;
+        return numbers::FIRST_DAY_AFTER_BOOK;
     }
     if period_wrong(b, n) {
-        return PERIOD_WRONG;
+        return numbers::PERIOD_WRONG;
     }
     if volume_wrong(n) {
-        return VOLUME_WRONG;
+        return numbers::VOLUME_WRONG;
     }
     0
 }

@@ -1,14 +1,13 @@
 // "One call closes the next gate."
 use crate::Book;
 use crate::Gated;
+use crate::numbers;
 use crate::state;
 ghost use mathlib.Core.Path.{_≡_};
 ghost use Rattle.words.specs.Rules.{answer};
 ghost use Rattle.meaning.specs.Calls.{gateRules};
 ghost use Rattle.book.specs.Structs.{bookOf};
 ghost use Rattle.book.specs.Answers.{nextAnswer, gated};
-
-pub const EVERY_GATE_CLOSED: u8 = 2;
 
 // The next gate of a book known to be sound; with a refusal the book as it came.
 pub fn close_next(b: Book) -> Gated
@@ -17,7 +16,7 @@ pub fn close_next(b: Book) -> Gated
     let c = state::clock_of(b);
     if clock::every_gate_closed(c) {
         return Gated {
-            answer: EVERY_GATE_CLOSED,
+            answer: numbers::EVERY_GATE_CLOSED,
             book: b,
         };
     }
@@ -38,7 +37,7 @@ pub fn close_gate(b: Book, held: &[u32], side1: &[i32], side2: &[i32]) -> Gated
 {
     if !state::is_sound(b, held, side1, side2) {
         return Gated {
-            answer: state::NOT_SOUND,
+            answer: numbers::NOT_SOUND,
             book: b,
         };
     }

@@ -7,8 +7,6 @@ ghost use Rattle.meaning.specs.Authorisations.{rowAt};
 ghost use Rattle.setups.specs.Structs.{rowOf};
 ghost use Rattle.book.specs.Structs.{clockIn, rowsIn, bookOf};
 
-pub const NOT_SOUND: u8 = 1;
-
 const MOST_ROWS: u32 = 64;
 
 // The days and the gates closed, for the questions of `clock`.

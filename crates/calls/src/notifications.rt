@@ -2,6 +2,7 @@
 use crate::Notified;
 use crate::sound_book;
 use book::Book;
+use book::numbers;
 use book::state;
 ghost use mathlib.Core.Path.{_≡_};
 ghost use Rattle.meaning.specs.Messages.{notification};
@@ -22,7 +23,7 @@ pub fn notification_answer(
     ensures { λ r. ⌜ r ≡ notifiedOf (notified (bookOf b (now (held .entry)) (now (side1 .entry)) (now (side2 .entry))) (notificationOf n)) ⌝ }
 {
     if !state::is_sound(b, held, side1, side2) {
-        return sound_book::refused(state::NOT_SOUND);
+        return sound_book::refused(numbers::NOT_SOUND);
     }
     sound_book::judge_notification(b, n, held, side1, side2)
 }
@@ -41,7 +42,7 @@ pub fn notify(
       ⌜ (r ≡ notifiedOf (notified before (notificationOf n))) × (now (held .exit) ≡ afterCall before call .ledger .held) × (now (side1 .exit) ≡ afterCall before call .ledger .side1) × (now (side2 .exit) ≡ afterCall before call .ledger .side2) ⌝ }
 {
     if !state::is_sound(b, held, side1, side2) {
-        return sound_book::refused(state::NOT_SOUND);
+        return sound_book::refused(numbers::NOT_SOUND);
     }
     sound_book::do_notification(b, n, held, side1, side2)
 }

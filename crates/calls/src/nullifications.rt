@@ -1,6 +1,7 @@
 // A nullification blanks both sides of each identifier between its two accounts (document 01, "What a notification does"; refusals 1, 2, 15, 9).
 use crate::sound_book;
 use book::Book;
+use book::numbers;
 use book::state;
 ghost use mathlib.Core.Path.{_≡_};
 ghost use Rattle.words.specs.Rules.{answer};
@@ -21,7 +22,7 @@ pub fn nullification_refusal(
     ensures { λ r. ⌜ r ≡ answer (nullificationRules (bookOf b (now (held .entry)) (now (side1 .entry)) (now (side2 .entry))) (nullificationOf x)) ⌝ }
 {
     if !state::is_sound(b, held, side1, side2) {
-        return state::NOT_SOUND;
+        return numbers::NOT_SOUND;
     }
     sound_book::judge_nullification(b, x)
 }
@@ -41,7 +42,7 @@ pub fn nullify(
       ⌜ (r ≡ refusal before call) × (now (side1 .exit) ≡ afterCall before call .ledger .side1) × (now (side2 .exit) ≡ afterCall before call .ledger .side2) ⌝ }
 {
     if !state::is_sound(b, held, side1, side2) {
-        return state::NOT_SOUND;
+        return numbers::NOT_SOUND;
     }
     sound_book::do_nullification(b, x, held, side1, side2)
 }

@@ -3,6 +3,7 @@ use crate::Applied;
 use crate::AppliedAll;
 use crate::sound_book;
 use book::Book;
+use book::numbers;
 use book::state;
 ghost use mathlib.Core.Bool.{true};
 ghost use mathlib.Core.Path.{_≡_};
@@ -37,7 +38,7 @@ fn apply_known(
     }
     if !known {
         return Applied {
-            answer: state::NOT_SOUND,
+            answer: numbers::NOT_SOUND,
             length: read.length,
             book: b,
         };
@@ -125,7 +126,7 @@ pub fn apply_all(
 {
     if !state::is_sound(b, held, side1, side2) {
         return AppliedAll {
-            answer: state::NOT_SOUND,
+            answer: numbers::NOT_SOUND,
             done: 0,
             used: 0,
             book: b,

@@ -4,6 +4,7 @@ use book::Book;
 use book::Gated;
 use book::checks;
 use book::gates;
+use book::numbers;
 use book::state;
 ghost use mathlib.Core.Bool.{true, cond};
 ghost use mathlib.Core.Path.{_≡_};
@@ -21,25 +22,11 @@ ghost use Rattle.book.specs.Structs.{bookOf};
 ghost use Rattle.calls.specs.Answers.{afterCall, afterMessage, lateRules, accountsWrong, pairRules, notifiedOf, messageDone};
 ghost use Rattle.effects.specs.Effects.{slotRule};
 
-const REFERENCES: u32 = 65536;
-
-const FIRST_DAY_AFTER_BOOK: u8 = 9;
-
-const REPLACEMENT_NOT_ALLOWED: u8 = 12;
-
-const ADDITIONAL_NOT_ALLOWED: u8 = 13;
-
-const NO_SLOT: u8 = 14;
-
-const NO_SUCH_ACCOUNT: u8 = 15;
-
-const NO_SUCH_KIND: u8 = 20;
-
 // The entry of `held` that holds its identifier.
 fn entry_of(n: messages::Notification) -> u32
     ensures { λ r. ⌜ r ≡ suc (notificationOf n .identifier) ⌝ }
 {
-    n.originator as u32 * REFERENCES + n.reference as u32 + 1
+    n.originator as u32 * ledger::REFERENCES + n.reference as u32 + 1
 }
 
 // "A new identifier takes the lowest unheld slot."; the number of slots where there is none.
@@ -58,13 +45,13 @@ fn late_refusal(kind: u8, amendment: u8, slot: usize, slots: usize) -> u8
     ensures { λ r. ⌜ r ≡ answer (lateRules kind amendment slot slots) ⌝ }
 {
     if (kind == 2) & (amendment == 2) {
-        return REPLACEMENT_NOT_ALLOWED;
+        return numbers::REPLACEMENT_NOT_ALLOWED;
     }
     if (kind == 3) & (amendment == 1) {
-        return ADDITIONAL_NOT_ALLOWED;
+        return numbers::ADDITIONAL_NOT_ALLOWED;
     }
     if slots <= slot {
-        return NO_SLOT;
+        return numbers::NO_SLOT;
     }
     0
 }
@@ -157,13 +144,13 @@ pub fn judge_nullification(b: Book, x: messages::Nullification) -> u8
 {
     let c = state::clock_of(b);
     if clock::every_gate_closed(c) {
-        return gates::EVERY_GATE_CLOSED;
+        return numbers::EVERY_GATE_CLOSED;
     }
     if accounts_wrong(b, x) {
-        return NO_SUCH_ACCOUNT;
+        return numbers::NO_SUCH_ACCOUNT;
     }
     if b.setup.first as u32 + b.setup.days as u32 <= x.first as u32 {
-        return FIRST_DAY_AFTER_BOOK;
+        return numbers::FIRST_DAY_AFTER_BOOK;
     }
     0
 }
@@ -223,7 +210,7 @@ pub fn do_message(
             }
         }
         _ => Gated {
-            answer: NO_SUCH_KIND,
+            answer: numbers::NO_SUCH_KIND,
             book: b,
         },
     }

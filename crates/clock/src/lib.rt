@@ -3,7 +3,7 @@ ghost use mathlib.Core.Path.{_≡_};
 ghost use Rattle.meaning.specs.Time.{periodsOfCode, periodsAt, isPeriodAt, gatesBefore, allGates, isOpenAt, hasDay, isPeriod, everyGateClosed, currentDay};
 ghost use Rattle.clock.specs.Structs.{timeOf};
 
-const MOST_DAYS: u8 = 8;
+pub const MOST_DAYS: u8 = 8;
 
 const SHORT_DAY: u8 = 46;
 

@@ -18,10 +18,6 @@ ghost use Rattle.effects.specs.Effects.{only, slotRule, DayInside, SlotG
 
 const MOST_ENTRIES: u8 = 50;
 
-const PLACES_A_DAY: usize = 50;
-
-const REFERENCES: u32 = 65536;
-
 // Entries past the array are of period 0, and give nothing.
 fn entries_inside(count: u8) -> usize
     ensures { λ r. ⌜ r ≡ min count 50 ⌝ }
@@ -43,7 +39,7 @@ pub fn volumes_of(n: messages::Notification) -> [i32; 50]
         let e = n.entries[k];
         let place = e.period as usize;
         let volume = e.volume;
-        if (0 < place) & (place <= PLACES_A_DAY) {
+        if (0 < place) & (place <= ledger::PLACES_A_DAY) {
             volumes[place - 1] = volume;
         }
     }
@@ -83,7 +79,7 @@ fn write_day(
     if day < first as u32 {
         return;
     }
-    let base = (slot * c.days as usize + d as usize) * PLACES_A_DAY;
+    let base = (slot * c.days as usize + d as usize) * ledger::PLACES_A_DAY;
     let closed = closed_on(c, d);
     let periods = clock::periods_at(c, d) as usize;
     if day < until {
@@ -133,7 +129,7 @@ fn of_pair(b: Book, entry: u32, account: u8, other: u8) -> bool
     if entry == 0 {
         return false;
     }
-    let row = state::row_of(b, (entry - 1) / REFERENCES);
+    let row = state::row_of(b, (entry - 1) / ledger::REFERENCES);
     ((account == row.account1) & (other == row.account2))
         | ((other == row.account1) & (account == row.account2))
 }
@@ -160,7 +156,7 @@ fn blank_slots(side: &mut [i32], held: &[u32], b: Book, account: u8, other: u8, 
 pub fn blank_pair(side: &mut [i32], held: &[u32], b: Book, account: u8, other: u8, first: u16)
     ensures { λ r. ⌜ ((σ : Side) → now (side .exit) ≡ pairBlanked b account other first (now (held .entry)) σ (now (side .entry))) ⌝ }
 {
-    if 256 < held.len() {
+    if ledger::MOST_SLOTS < held.len() {
         return;
     }
     blank_slots(side, held, b, account, other, first);

@@ -20,10 +20,6 @@ const REPLACEMENT: u8 = 2;
 
 const ADDITIONAL: u8 = 3;
 
-const PLACES_A_DAY: usize = 50;
-
-const REFERENCES: u32 = 65536;
-
 // The notification writes side 1: it is sent by agent 1.
 pub fn writes_side1(b: Book, n: messages::Notification) -> bool
     ensures { λ r. ⌜ r ≡ writes (rowsIn (b .setup)) (notificationOf n) one ⌝ }
@@ -48,8 +44,8 @@ fn is_other(b: Book, n: messages::Notification, entry: u32) -> bool
         return false;
     }
     let identifier = entry - 1;
-    let own = n.originator as u32 * REFERENCES + n.reference as u32;
-    let origin = state::row_of(b, identifier / REFERENCES);
+    let own = n.originator as u32 * ledger::REFERENCES + n.reference as u32;
+    let origin = state::row_of(b, identifier / ledger::REFERENCES);
     let mine = state::row_of(b, n.authorisation as u32);
     (identifier != own) & ((origin.account1 == mine.account1) & (origin.account2 == mine.account2))
 }
@@ -68,7 +64,7 @@ fn states_at(
     requires { ⌜ Inside (now side1) (now side2) days s d p ⌝ }
     ensures { λ r. ⌜ r ≡ statesPlace (now (side1 .entry)) (now (side2 .entry)) w1 w2 (placeOf days s d p) ⌝ }
 {
-    let i = (s * days as usize + d as usize) * PLACES_A_DAY + p as usize;
+    let i = (s * days as usize + d as usize) * ledger::PLACES_A_DAY + p as usize;
     let stated1 = ledger::states(side1[i]);
     let stated2 = ledger::states(side2[i]);
     (w1 & stated1) | (w2 & stated2)
@@ -173,7 +169,7 @@ fn is_replacement(
     requires { ⌜ Fits b (now held) (now side1) (now side2) ⌝ }
     ensures { λ r. ⌜ r ≡ isReplacement (bookOf b (now (held .entry)) (now (side1 .entry)) (now (side2 .entry))) (notificationOf n) ⌝ }
 {
-    let entry = n.originator as u32 * REFERENCES + n.reference as u32 + 1;
+    let entry = n.originator as u32 * ledger::REFERENCES + n.reference as u32 + 1;
     let slot = ledger::slot_with(held, entry);
     if held.len() <= slot {
         return false;
@@ -200,13 +196,13 @@ fn tables_fit(b: Book, slots: usize, lent1: usize, lent2: usize) -> bool
     ensures { λ r. ⌜ r ≡ fits b slots lent1 lent2 ⌝ }
 {
     let days = b.setup.days;
-    if 8 < days {
+    if clock::MOST_DAYS < days {
         return false;
     }
-    if 256 < slots {
+    if ledger::MOST_SLOTS < slots {
         return false;
     }
-    let all = slots * days as usize * PLACES_A_DAY;
+    let all = slots * days as usize * ledger::PLACES_A_DAY;
     (lent1 == all) & (lent2 == all)
 }
 

@@ -18,9 +18,15 @@ pub const LEAST_KWH: i32 = -99999999;
 
 pub const MOST_KWH: i32 = 99999999;
 
-const PLACES_A_DAY: usize = 50;
+// The places of a side: slots times days times 50.
+pub const PLACES_A_DAY: usize = 50;
 
-const REFERENCES: u32 = 65536;
+pub const MOST_SLOTS: usize = 256;
+
+const MOST_DAYS: usize = 8;
+
+// An identifier is originator * 65,536 + reference.
+pub const REFERENCES: u32 = 65536;
 
 // A place states something when it does not hold the mark.
 pub fn states(v: i32) -> bool
@@ -131,10 +137,10 @@ pub fn side_right(side: &[i32], held: &[u32], c: clock::Clock) -> bool
     ensures { λ r. ⌜ r ≡ sideRight (now (side .entry)) (now (held .entry)) c ⌝ }
 {
     let days = c.days as usize;
-    if 8 < days {
+    if MOST_DAYS < days {
         return false;
     }
-    if 256 < held.len() {
+    if MOST_SLOTS < held.len() {
         return false;
     }
     if side.len() != held.len() * days * PLACES_A_DAY {

@@ -10,14 +10,6 @@ ghost use Rattle.setups.specs.Structs.{rowOf};
 ghost use Rattle.book.specs.Structs.{rowsIn, bookOf};
 ghost use Rattle.position.specs.Counting.{countedAt};
 
-const NO_SUCH_ACCOUNT: u8 = 15;
-
-const NO_SUCH_DAY: u8 = 16;
-
-const REFERENCES: u32 = 65536;
-
-const PLACES_A_DAY: usize = 50;
-
 // The originating authorisation of the identifier that an entry of `held` holds; all zero where it holds none.
 pub fn origin_of(b: book::Book, entry: u32) -> setups::Authorisation
     ensures { λ r. ⌜ rowOf r ≡ originIn (rowsIn (b .setup)) entry ⌝ }
@@ -34,14 +26,14 @@ pub fn origin_of(b: book::Book, entry: u32) -> setups::Authorisation
             amendment: 0,
         };
     }
-    book::state::row_of(b, (entry - 1) / REFERENCES)
+    book::state::row_of(b, (entry - 1) / ledger::REFERENCES)
 }
 
 // Where a side's table has a slot's volume on the day at place d in the period at place p, both from 0.
 pub fn place_of(slot: u8, days: u8, d: u8, p: u8) -> usize
     ensures { λ r. ⌜ r ≡ index days slot d (suc p) ⌝ }
 {
-    (slot as usize * days as usize + d as usize) * PLACES_A_DAY + p as usize
+    (slot as usize * days as usize + d as usize) * ledger::PLACES_A_DAY + p as usize
 }
 
 // What stands at a place of a side's table. Past its end it is 0, so that no reader owes an index.
@@ -104,15 +96,15 @@ pub fn day_refusal(
     ensures { λ r. ⌜ r ≡ answer (figuresRules (bookOf b (now (held .entry)) (now (side1 .entry)) (now (side2 .entry))) account day) ⌝ }
 {
     if !book::state::is_sound(b, held, side1, side2) {
-        return book::state::NOT_SOUND;
+        return book::numbers::NOT_SOUND;
     }
     let s = b.setup;
     if s.accounts <= account {
-        return NO_SUCH_ACCOUNT;
+        return book::numbers::NO_SUCH_ACCOUNT;
     }
     let c = book::state::clock_of(b);
     if !clock::has_day(c, day) {
-        return NO_SUCH_DAY;
+        return book::numbers::NO_SUCH_DAY;
     }
     0
 }

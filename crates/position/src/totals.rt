@@ -12,12 +12,6 @@ ghost use Rattle.book.specs.Structs.{timeIn, bookOf};
 ghost use Rattle.position.specs.Counting.{sumAnswered, daySums};
 ghost use Rattle.position.specs.Totals.{totalled, dayTotalRules, dayTotals};
 
-const NO_SUCH_PERIOD: u8 = 16;
-
-const NO_ROOM: u8 = 24;
-
-const TOO_LARGE: u8 = 26;
-
 const LEAST_TOTAL: i64 = -99999999999;
 
 const MOST_TOTAL: i64 = 99999999999;
@@ -33,7 +27,7 @@ fn answered(kwh: i64) -> Totalled
         };
     }
     Totalled {
-        answer: TOO_LARGE,
+        answer: book::numbers::TOTAL_TOO_LARGE,
         kwh: 0,
     }
 }
@@ -88,7 +82,7 @@ pub fn total(
     let c = book::state::clock_of(b);
     if !clock::is_period_at(c, d, period) {
         return Totalled {
-            answer: NO_SUCH_PERIOD,
+            answer: book::numbers::NO_SUCH_DAY,
             kwh: 0,
         };
     }
@@ -140,7 +134,7 @@ pub fn day_totals(
     let d = (day - s.first) as u8;
     let periods = clock::periods_at(book::state::clock_of(b), d);
     if out.len() < periods as usize {
-        return NO_ROOM;
+        return book::numbers::NO_ROOM;
     }
     store_totals(b, held, side1, side2, account, d, out);
     0

@@ -1,0 +1,42 @@
+// Document 01, "Answer numbers": those of the calls and questions on a book. Those of bytes and setups stand with their readers.
+pub const NOT_SOUND: u8 = 1;
+
+pub const EVERY_GATE_CLOSED: u8 = 2;
+
+pub const NO_AUTHORISATION: u8 = 3;
+
+pub const KEY_OR_AGENT_WRONG: u8 = 4;
+
+pub const NOT_IN_FORCE: u8 = 5;
+
+pub const ORIGINATOR_WRONG: u8 = 6;
+
+pub const LAST_BEFORE_FIRST: u8 = 7;
+
+pub const LAST_DAY_PAST: u8 = 8;
+
+pub const FIRST_DAY_AFTER_BOOK: u8 = 9;
+
+pub const PERIOD_WRONG: u8 = 10;
+
+pub const VOLUME_WRONG: u8 = 11;
+
+pub const REPLACEMENT_NOT_ALLOWED: u8 = 12;
+
+pub const ADDITIONAL_NOT_ALLOWED: u8 = 13;
+
+pub const NO_SLOT: u8 = 14;
+
+// Not in the book, not in the pair, or the two equal.
+pub const NO_SUCH_ACCOUNT: u8 = 15;
+
+// Day number, period or side.
+pub const NO_SUCH_DAY: u8 = 16;
+
+pub const NO_SUCH_KIND: u8 = 20;
+
+pub const NO_ROOM: u8 = 24;
+
+pub const NOT_HELD: u8 = 25;
+
+pub const TOTAL_TOO_LARGE: u8 = 26;
