@@ -17,6 +17,9 @@ use Rattle.ledger.specs.Parts.{blank, right, sideRight}
 pub unique-states : (v : ℤ) (r r′ : Bool) → r ≡ stands contracts v → r′ ≡ stands contracts v → r ≡ r′
 unique-states v r r′ p q = one-outcome p q
 
+pub unique-volume-at : (side : List ℤ) (place : ℕ) (r r′ : ℤ) → r ≡ getD side place (pos 0) → r′ ≡ getD side place (pos 0) → r ≡ r′
+unique-volume-at side place r r′ p q = one-outcome p q
+
 pub unique-all-blank : (part : List ℤ) (r r′ : Bool)
     → r ≡ everyBelow (length part) (λ (k : ℕ). blank (getD part k (pos 0))) → r′ ≡ everyBelow (length part) (λ (k : ℕ). blank (getD part k (pos 0))) → r ≡ r′
 unique-all-blank part r r′ p q = one-outcome p q

@@ -35,6 +35,16 @@ pub fn states(v: i32) -> bool
     v != MARK
 }
 
+// What stands at a place of a side's table. Past its end it is 0, so that no reader owes an index.
+pub fn volume_at(side: &[i32], place: usize) -> i32
+    ensures { λ r. ⌜ r ≡ getD (now (side .entry)) place (pos 0) ⌝ }
+{
+    if place < side.len() {
+        return side[place];
+    }
+    0
+}
+
 // The mark, or a volume in range. No branch, so that a scan runs on vectors.
 fn is_right(v: i32) -> bool
     ensures { λ r. ⌜ r ≡ right v ⌝ }

@@ -1,8 +1,7 @@
 // What a slot counts for an account: matched volumes only, plus for account 1, minus for account 2; and when a question of a day is refused.
 ghost use mathlib.Core.Path.{_≡_};
 ghost use Prim.Native.Nat.{suc, _≤_};
-ghost use lib.IntN.{pos, natAbs};
-ghost use lib.ListN.{getD};
+ghost use lib.IntN.{natAbs};
 ghost use Rattle.words.specs.Rules.{answer};
 ghost use Rattle.meaning.specs.Ledgers.{index, originIn};
 ghost use Rattle.meaning.specs.Totals.{matches, seenBy, figuresRules};
@@ -36,16 +35,6 @@ pub fn place_of(slot: u8, days: u8, d: u8, p: u8) -> usize
     (slot as usize * days as usize + d as usize) * ledger::PLACES_A_DAY + p as usize
 }
 
-// What stands at a place of a side's table. Past its end it is 0, so that no reader owes an index.
-fn volume_at(side: &[i32], place: usize) -> i32
-    ensures { λ r. ⌜ r ≡ getD (now (side .entry)) place (pos 0) ⌝ }
-{
-    if place < side.len() {
-        return side[place];
-    }
-    0
-}
-
 // "A period matches when both sides stand and are equal."
 fn is_matched(v: i32, w: i32) -> bool
     ensures { λ r. ⌜ r ≡ matches v w ⌝ }
@@ -76,8 +65,8 @@ pub fn counted_at(
 ) -> i64
     ensures { λ r. ⌜ (r ≡ countedAt (rowOf row) account (now (side1 .entry)) (now (side2 .entry)) place) × (natAbs r ≤ 2147483648) ⌝ }
 {
-    let v = volume_at(side1, place);
-    let w = volume_at(side2, place);
+    let v = ledger::volume_at(side1, place);
+    let w = ledger::volume_at(side2, place);
     if !is_matched(v, w) {
         return 0;
     }

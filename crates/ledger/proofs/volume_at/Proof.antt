@@ -4,8 +4,8 @@ use mathlib.Core.Path.{sym}
 use denote.Ref.{now}
 use lib.IntN.{pos}
 use lib.ListN.{List·getD-eq-default}
-use Rattle.position.proofs.counting.volume_at.Statement.{statement}
-use Rattle.position.proofs.counting.volume_at.Tie as tie
+use Rattle.ledger.proofs.volume_at.Statement.{statement}
+use Rattle.ledger.proofs.volume_at.Tie as tie
 
 mul-result : tie.Need-mul-result
 mul-result c = search needs

@@ -1,0 +1,121 @@
+-- The rules of a day's marks, and a buffer whose front a loop writes.
+use mathlib.Core.Bool.{Bool, true, false, not, cond, _||_}
+use mathlib.Core.List.{List}
+use mathlib.Core.Logic.{_≢_}
+use mathlib.Core.Path.{_≡_, refl, sym, ap, _∙_}
+use Prim.Native.Nat.{ℕ, suc, _+_, _≤_, _<_}
+use native.Mathlib.Omega.{arith}
+use lib.Dec.{ltb}
+use lib.ListN.{length, getD, set, length-set}
+use lib.Seq.{getD-set-same, getD-set-other}
+use borrow.Author.Tests.{ne-eqb, lt-ltb, le-ltb, ltb-false}
+use Rattle.words.specs.Rules.{Rule, _when_else_, done, answer}
+use Rattle.laws.proofs.Cases.{by-lt, by-eq, or-left, or-right}
+use Rattle.laws.proofs.Lists.{length-mapAt, getD-mapAt, mapAt-is, mapAt-same}
+use Rattle.meaning.specs.Time.{periodsAt, dayOf, hasDay}
+use Rattle.meaning.specs.Ledgers.{contracts}
+use Rattle.meaning.specs.Books.{Book}
+use Rattle.meaning.specs.Bars.{mark}
+use Rattle.bars.specs.Marks.{barFor, askingRules, dayMarkRules, overFront, dayMarked}
+use Rattle.bars.specs.declared.Bar.{Bar}
+use Rattle.bars.proofs.MarkLaws.{earlier-answers, later-answers}
+
+-- ---- the front of a buffer
+
+module _ {A : Type 0} (f : ℕ → A) (buffer : List A) (d : A) where
+  pub length-front : (n : ℕ) → length (overFront n f buffer) ≡ length buffer
+  unfolding overFront
+  length-front n = length-mapAt (λ (p : ℕ) (old : A). cond (ltb p n) (f p) old) buffer
+
+  front-at : (n p : ℕ) → p < length buffer → getD (overFront n f buffer) p d ≡ cond (ltb p n) (f p) (getD buffer p d)
+  unfolding overFront
+  front-at n p h = getD-mapAt (λ (q : ℕ) (old : A). cond (ltb q n) (f q) old) buffer p d h
+
+  pub front-none : buffer ≡ overFront 0 f buffer
+  unfolding overFront
+  front-none = mapAt-is (λ (p : ℕ) (old : A). cond (ltb p 0) (f p) old) buffer buffer d refl (λ p h. rw (le-ltb p 0 (omega arith)))
+
+  -- a loop's next turn
+  pub front-more : (n : ℕ) → n < length buffer → set (overFront n f buffer) n (f n) ≡ overFront (n + 1) f buffer
+  unfolding overFront
+  front-more n l =
+      mapAt-is (λ (p : ℕ) (old : A). cond (ltb p (n + 1)) (f p) old) buffer (set (overFront n f buffer) n (f n)) d
+      (length-set (overFront n f buffer) n (f n) ∙ length-front n)
+      (λ p h.
+      by-eq p n
+      (λ e. rw (e, lt-ltb n (n + 1) (omega arith)) (getD-set-same (overFront n f buffer) n (f n) d (omega (arith, length-front n))))
+      (λ e.
+      getD-set-other (overFront n f buffer) n p (f n) d e
+      ∙ front-at n p h
+      ∙ by-lt p n
+      (λ w. rw (lt-ltb p n w, lt-ltb p (n + 1) (omega arith)))
+      (λ w. rw (le-ltb p n w, le-ltb p (n + 1) (omega arith)))))
+
+pub front-same : {A : Type 0} (n : ℕ) (f g : ℕ → A) (buffer : List A) (d : A) → ((p : ℕ) → p < n → f p ≡ g p) → overFront n f buffer ≡ overFront n g buffer
+unfolding overFront
+front-same {A} n f g buffer d e =
+    mapAt-same (λ (p : ℕ) (old : A). cond (ltb p n) (f p) old) (λ (p : ℕ) (old : A). cond (ltb p n) (g p) old) buffer d
+    (λ p h. by-lt p n (λ l. rw (lt-ltb p n l) (e p l)) (λ l. rw (le-ltb p n l)))
+
+-- ---- the rules of a day's marks
+
+module _ (b : Book contracts) (i account D : ℕ) where
+  abbrev asking : ℕ
+  asking = answer (askingRules b i account)
+
+  abbrev pub periodsOn : ℕ
+  periodsOn = periodsAt (b .time .codes) (dayOf (b .time) D)
+
+  module _ (cases firsts seconds : ℕ) where
+    abbrev pub dayAnswer : ℕ
+    dayAnswer = answer (dayMarkRules b i account D cases firsts seconds)
+
+    -- a buffer has no room
+    abbrev pub noRoom : Bool
+    noRoom = ltb cases periodsOn || ltb firsts periodsOn || ltb seconds periodsOn
+
+    abbrev later : List Rule
+    later = 16 when not (hasDay (b .time) D) else 24 when noRoom else done
+
+    pub day-earlier : asking ≢ 0 → asking ≡ dayAnswer
+    unfolding askingRules dayMarkRules
+    day-earlier n = sym (earlier-answers (askingRules b i account) later n)
+
+    day-later : asking ≡ 0 → dayAnswer ≡ answer later
+    unfolding askingRules dayMarkRules
+    day-later e = later-answers (askingRules b i account) later refl e
+
+    pub day-none : asking ≡ 0 → hasDay (b .time) D ≡ false → 16 ≡ dayAnswer
+    unfolding answer
+    day-none e h = sym (day-later e ∙ rw h)
+
+    pub day-no-room : asking ≡ 0 → hasDay (b .time) D ≡ true → noRoom ≡ true → 24 ≡ dayAnswer
+    unfolding answer
+    day-no-room e h r = sym (day-later e ∙ rw (h, r))
+
+    pub day-done : asking ≡ 0 → hasDay (b .time) D ≡ true → noRoom ≡ false → 0 ≡ dayAnswer
+    unfolding answer
+    day-done e h r = sym (day-later e ∙ rw (h, r))
+
+    pub rooms : noRoom ≡ false → (periodsOn ≤ cases) × (periodsOn ≤ firsts) × (periodsOn ≤ seconds)
+    rooms e =
+        let some = or-left (ltb cases periodsOn || ltb firsts periodsOn) (ltb seconds periodsOn) e in (
+          ltb-false cases periodsOn (or-left (ltb cases periodsOn) (ltb firsts periodsOn) some),
+          ltb-false firsts periodsOn (or-right (ltb cases periodsOn) (ltb firsts periodsOn) some),
+          ltb-false seconds periodsOn (or-right (ltb cases periodsOn || ltb firsts periodsOn) (ltb seconds periodsOn) e),
+        )
+
+-- ---- a buffer after the question
+
+module _ {A : Type 0} (value : Bar → A) (b : Book contracts) (i account D : ℕ) (buffer : List A) where
+  pub day-refused : (refusal : ℕ) → refusal ≢ 0 → buffer ≡ dayMarked value b i account D refusal buffer
+  unfolding dayMarked
+  day-refused refusal n = rw (ne-eqb refusal 0 n)
+
+  -- where the bars written are the marks of the day's periods
+  pub day-written : (bars : ℕ → Bar) (d : A) → ((p : ℕ) → p < periodsAt (b .time .codes) (dayOf (b .time) D) → bars p ≡ barFor (mark b i account D (suc p)))
+      → overFront (periodsAt (b .time .codes) (dayOf (b .time) D)) (λ (p : ℕ). value (bars p)) buffer ≡ dayMarked value b i account D 0 buffer
+  unfolding dayMarked
+  day-written bars d e =
+      front-same (periodsAt (b .time .codes) (dayOf (b .time) D)) (λ (p : ℕ). value (bars p)) (λ (p : ℕ). value (barFor (mark b i account D (suc p)))) buffer d
+      (λ p l. ap value (e p l))

@@ -1,0 +1,8 @@
+-- Laws that the functions' proofs share; rows and marks in the code's terms; and that no two outcomes meet one promise.
+pub mod RowLaws
+pub mod MwhLaws
+pub mod MarkLaws
+pub mod MarkPlaces
+pub mod DayMarkLaws
+pub mod MarkTheorems
+pub mod UniqueMarks

@@ -1,0 +1,106 @@
+-- Document 01, "Matching, totals, marks": the enum of a mark with this paper's number and values for each case, and the marks of a whole day.
+use mathlib.Core.Bool.{Bool, false, not, _&&_, _||_}
+use mathlib.Core.List.{List}
+use Prim.Native.Nat.{ℕ, suc, _+_}
+use lib.IntN.{ℤ, pos, negℤ}
+use lib.Ieee.{Float, fin}
+use lib.ListN.{getD}
+use Rattle.words.specs.Tests.{if_then_else_, _<?_, _=?_}
+use Rattle.words.specs.Lists.{mapAt}
+use Rattle.words.specs.Rules.{Rule, _when_else_, done, answer}
+use Rattle.meaning.specs.Time.{periodsAt, dayOf, hasDay}
+use Rattle.meaning.specs.Authorisations.{rowAt, inPair}
+use Rattle.meaning.specs.Ledgers.{contracts, originatorOf, isHeld}
+use Rattle.meaning.specs.Books.{Book, hasAccount}
+use Rattle.meaning.specs.Soundness.{sound}
+use Rattle.meaning.specs.Totals.{mwh}
+use Rattle.meaning.specs.Bars as Meaning
+use Rattle.bars.specs.declared.Bar.{Bar}
+use Rattle.bars.specs.declared.Bar.the-variants.{Blank, OneSide, Agreed, Disagreed}
+use Rattle.bars.specs.declared.Marked.{Marked}
+
+-- ---- the enum
+
+abbrev pub barFor : Meaning.Bar Float → Bar
+barFor Meaning.Blank = Blank
+barFor (Meaning.OneSide x) = OneSide x
+barFor (Meaning.Agreed x) = Agreed x
+barFor (Meaning.Disagreed x y) = Disagreed x y
+
+-- its number
+abbrev pub caseOf : Bar → ℕ
+caseOf Blank = 0
+caseOf (OneSide x) = 1
+caseOf (Agreed x) = 2
+caseOf (Disagreed x y) = 3
+
+-- "Zero is positive zero": a figure that a case does not have
+abbrev pub noFigure : Float
+noFigure = fin false 0 (pos 0)
+
+-- its values: the first figure, which is side 1's where there are two, and the second
+abbrev pub firstOf : Bar → Float
+firstOf Blank = noFigure
+firstOf (OneSide x) = x
+firstOf (Agreed x) = x
+firstOf (Disagreed x y) = x
+
+abbrev pub secondOf : Bar → Float
+secondOf Blank = noFigure
+secondOf (OneSide x) = noFigure
+secondOf (Agreed x) = noFigure
+secondOf (Disagreed x y) = y
+
+-- ---- a mark
+
+-- a refusal's "other results are .. the blank mark"
+abbrev pub refusedMark : ℕ → Marked
+refusedMark n = record { answer = n; bar = Blank }
+
+unfoldable pub marked : Book contracts → ℕ → ℕ → ℕ → ℕ → Marked
+marked b i account D period =
+    record { answer = answer (Meaning.markRules b i account D period); bar = barFor (Meaning.mark b i account D period) }
+
+-- ---- the marks of a day
+
+-- the rules of a mark that speak of no day: 1, 25, 15
+unfoldable pub askingRules : Book contracts → ℕ → ℕ → List Rule
+askingRules b i account =
+    1 when not (sound b) else
+    25 when not (isHeld (b .ledger .held) i) else
+    15 when not (hasAccount b account && inPair (rowAt (b .rows) (originatorOf i)) account) else
+    done
+
+-- those of a mark for a day instead of a period; and 24 where one of the three buffers, by its length, has no room for the day
+unfoldable pub dayMarkRules : Book contracts → ℕ → ℕ → ℕ → ℕ → ℕ → ℕ → List Rule
+dayMarkRules b i account D cases firsts seconds =
+    let periods : ℕ = periodsAt (b .time .codes) (dayOf (b .time) D) in
+    1 when not (sound b) else
+    25 when not (isHeld (b .ledger .held) i) else
+    15 when not (hasAccount b account && inPair (rowAt (b .rows) (originatorOf i)) account) else
+    16 when not (hasDay (b .time) D) else
+    24 when cases <? periods || firsts <? periods || seconds <? periods else
+    done
+
+-- the first n places of a buffer hold f 0, f 1, ..; the places past them stay
+unfoldable pub overFront : {A : Type 0} → ℕ → (ℕ → A) → List A → List A
+overFront {A} n f buffer = mapAt (λ (p : ℕ) (old : A). if p <? n then f p else old) buffer
+
+-- a buffer after the question: with the answer 0 place p holds a value of the mark of period p + 1, and with a refusal it is as it came
+unfoldable pub dayMarked : {A : Type 0} → (Bar → A) → Book contracts → ℕ → ℕ → ℕ → ℕ → List A → List A
+dayMarked value b i account D refusal buffer =
+    if refusal =? 0
+    then overFront (periodsAt (b .time .codes) (dayOf (b .time) D)) (λ (p : ℕ). value (barFor (Meaning.mark b i account D (suc p)))) buffer
+    else buffer
+
+-- ---- what the two sides hold in a place, as account 1 of the pair sees it, or account 2
+
+unfoldable pub seenFrom : Bool → ℤ → ℤ
+seenFrom first v = if first then v else negℤ v
+
+unfoldable pub barSeen : Bool → ℤ → ℤ → Bar
+barSeen first v w = barFor (Meaning.mapBar mwh (Meaning.mapBar (seenFrom first) (Meaning.barOf v w)))
+
+-- in the place p past `start`
+unfoldable pub barFrom : Bool → List ℤ → List ℤ → ℕ → ℕ → Bar
+barFrom first side1 side2 start p = barSeen first (getD side1 (start + p) (pos 0)) (getD side2 (start + p) (pos 0))

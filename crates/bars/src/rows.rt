@@ -1,0 +1,99 @@
+// "The day's row is shown as a part of side 1's or side 2's own table, the day's length long; it is empty exactly on a refusal, whose number is
+// asked apart."
+use book::numbers;
+use book::state;
+ghost use mathlib.Core.Bool.{true};
+ghost use mathlib.Core.Path.{_≡_};
+ghost use Prim.Native.Nat.{_≤_, _<_};
+ghost use Rattle.words.specs.Rules.{answer};
+ghost use Rattle.meaning.specs.Time.{periodsAt, days, dayOf, hasDay};
+ghost use Rattle.meaning.specs.Ledgers.{index, identifierOf, slotOf};
+ghost use Rattle.meaning.specs.Rows.{rowRules, row};
+ghost use Rattle.book.specs.Structs.{timeIn, bookOf};
+
+// The slot that holds an identifier; the number of slots where none does.
+pub(crate) fn slot_of(held: &[u32], originator: u8, reference: u16) -> usize
+    ensures { λ r. ⌜ r ≡ slotOf (now (held .entry)) (identifierOf originator reference) ⌝ }
+{
+    let entry = originator as u32 * ledger::REFERENCES + reference as u32 + 1;
+    ledger::slot_with(held, entry)
+}
+
+// The place in the book of one of its days.
+pub(crate) fn day_of(b: book::Book, day: u16) -> u8
+    requires { ⌜ hasDay (timeIn b) day ≡ true ⌝ }
+    ensures { λ r. ⌜ r ≡ dayOf (timeIn b) day ⌝ }
+{
+    let s = b.setup;
+    (day - s.first) as u8
+}
+
+// The periods of one of the book's days.
+pub(crate) fn periods_on(b: book::Book, day: u16) -> u8
+    requires { ⌜ hasDay (timeIn b) day ≡ true ⌝ }
+    ensures { λ r. ⌜ r ≡ periodsAt (timeIn b .codes) (dayOf (timeIn b) day) ⌝ }
+{
+    let d = day_of(b, day);
+    clock::periods_at(state::clock_of(b), d)
+}
+
+// The place of a slot's period in a side's table.
+pub(crate) fn index_of(b: book::Book, slot: usize, day: u16, period: u8) -> usize
+    requires { ⌜ (hasDay (timeIn b) day ≡ true) × (slot < 256) × (1 ≤ period) ⌝ }
+    ensures { λ r. ⌜ r ≡ index (days (timeIn b)) slot (dayOf (timeIn b) day) period ⌝ }
+{
+    let s = b.setup;
+    let d = day_of(b, day);
+    (slot * s.days as usize + d as usize) * ledger::PLACES_A_DAY + (period as usize - 1)
+}
+
+// The number that refuses a row, or 0.
+pub fn row_refusal(
+    b: book::Book,
+    held: &[u32],
+    side1: &[i32],
+    side2: &[i32],
+    originator: u8,
+    reference: u16,
+    day: u16,
+    side: u8,
+) -> u8
+    ensures { λ r. ⌜ r ≡ answer (rowRules (bookOf b (now (held .entry)) (now (side1 .entry)) (now (side2 .entry))) (identifierOf originator reference) day side) ⌝ }
+{
+    if !state::is_sound(b, held, side1, side2) {
+        return numbers::NOT_SOUND;
+    }
+    if held.len() <= slot_of(held, originator, reference) {
+        return numbers::NOT_HELD;
+    }
+    let has_day = clock::has_day(state::clock_of(b), day);
+    if !(has_day & ((1 <= side) & (side <= 2))) {
+        return numbers::NO_SUCH_DAY;
+    }
+    0
+}
+
+// The day's part of a side's own table, the day's length long; empty where `row_refusal` gives a number.
+pub fn row<'a>(
+    b: book::Book,
+    held: &[u32],
+    side1: &'a [i32],
+    side2: &'a [i32],
+    originator: u8,
+    reference: u16,
+    day: u16,
+    side: u8,
+) -> &'a [i32]
+    ensures { λ r. ⌜ now r ≡ row (bookOf b (now (held .entry)) (now (side1 .entry)) (now (side2 .entry))) (identifierOf originator reference) day side ⌝ }
+{
+    if row_refusal(b, held, side1, side2, originator, reference, day, side) != 0 {
+        return &side1[0..0];
+    }
+    let slot = slot_of(held, originator, reference);
+    let start = index_of(b, slot, day, 1);
+    let end = index_of(b, slot, day, periods_on(b, day)) + 1;
+    if side == 1 {
+        return &side1[start..end];
+    }
+    &side2[start..end]
+}
