@@ -56,7 +56,7 @@ fn late_refusal(kind: u8, amendment: u8, slot: usize, slots: usize) -> u8
     0
 }
 
-pub fn refused(answer: u8) -> Notified
+pub(crate) fn refused(answer: u8) -> Notified
     ensures { λ r. ⌜ r ≡ record { answer = answer; kind = 0; slot = 0 } ⌝ }
 {
     Notified {
@@ -67,7 +67,7 @@ pub fn refused(answer: u8) -> Notified
 }
 
 // Its answer with kind and slot, before anything is written.
-pub fn judge_notification(
+pub(crate) fn judge_notification(
     b: Book,
     n: messages::Notification,
     held: &[u32],
@@ -105,7 +105,7 @@ fn write_side(side: &mut [i32], writes: bool, c: clock::Clock, slot: u8, n: mess
 }
 
 // The answer, and the three tables with what an accepted notification makes of them.
-pub fn do_notification(
+pub(crate) fn do_notification(
     b: Book,
     n: messages::Notification,
     held: &mut [u32],
@@ -139,7 +139,7 @@ fn accounts_wrong(b: Book, x: messages::Nullification) -> bool
 }
 
 // What refuses a nullification that is not soundness: 2, 15, 9.
-pub fn judge_nullification(b: Book, x: messages::Nullification) -> u8
+pub(crate) fn judge_nullification(b: Book, x: messages::Nullification) -> u8
     ensures { λ r. ⌜ r ≡ answer (pairRules b x) ⌝ }
 {
     let c = state::clock_of(b);
@@ -156,7 +156,7 @@ pub fn judge_nullification(b: Book, x: messages::Nullification) -> u8
 }
 
 // The answer, and both tables with what an accepted nullification makes of them.
-pub fn do_nullification(
+pub(crate) fn do_nullification(
     b: Book,
     x: messages::Nullification,
     held: &[u32],
@@ -179,7 +179,7 @@ pub fn do_nullification(
 }
 
 // A message by its kind. A fourth kind is refused by its own number; a reader gives none.
-pub fn do_message(
+pub(crate) fn do_message(
     b: Book,
     m: messages::Message,
     held: &mut [u32],

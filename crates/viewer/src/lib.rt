@@ -1,5 +1,7 @@
 // What the C viewer asks about message bytes (document 01, "Packed messages"): refusal, length and any one field, each asked apart.
 // include/ghendufika.h declares these functions and names the fields.
+pub mod books; // books.rt: a book from C
+
 ghost use mathlib.Core.Path.{_≡_};
 ghost use Rattle.words.specs.Rules.{answer};
 ghost use Rattle.meaning.specs.PackedMessages.{readingRules, readMessage};

@@ -1,0 +1,158 @@
+/* The sheet of document 01, and with `all` everything that its book shows, in the form of reference/sheet.c, through the proved archive.
+ * `print_sheet [all] [one|run]`: messages applied one by one, or as runs with room for 64 answers (the default). */
+#include "ghendufika.h"
+
+#include <stdio.h>
+#include <stdlib.h>
+#include <string.h>
+
+enum { SLOTS = 16 };
+
+static ghendufika_book book;
+static uint32_t held[SLOTS];
+static int32_t side1[SLOTS * GHENDUFIKA_MOST_DAYS * GHENDUFIKA_PLACES_A_DAY], side2[SLOTS * GHENDUFIKA_MOST_DAYS * GHENDUFIKA_PLACES_A_DAY];
+static size_t lent; /* places of a side */
+
+#define TABLES held, SLOTS, side1, lent, side2, lent
+
+static void give_up(const char *why) {
+    fprintf(stderr, "print_sheet: %s\n", why);
+    exit(2);
+}
+
+static unsigned long long bits(double figure) {
+    uint64_t number;
+    memcpy(&number, &figure, sizeof number);
+    return number;
+}
+
+static int periods_on(unsigned day) { /* the day's place */
+    static const int lengths[] = {46, 48, 50};
+    return lengths[book.setup.codes[day]];
+}
+
+static unsigned originator_of(unsigned slot) { return (held[slot] - 1) / 65536; }
+static unsigned reference_of(unsigned slot) { return (held[slot] - 1) % 65536; }
+
+/* Unreadable bytes end the reading. */
+static int is_unreadable(uint8_t answer) { return 19 <= answer && answer <= 22; }
+
+static size_t apply_runs(const uint8_t *bytes, size_t length) {
+    uint8_t answers[64];
+    size_t messages = 0;
+    for (size_t at = 0; at < length;) {
+        ghendufika_applied_all run = ghendufika_apply_all(book, bytes + at, length - at, TABLES, answers, sizeof answers);
+        if (run.answer != 0 || run.done == 0) give_up("a run was refused");
+        for (size_t k = 0; k < run.done; k++) printf("m %zu %u\n", ++messages, answers[k]);
+        book = run.book;
+        at += run.used;
+        if (is_unreadable(answers[run.done - 1])) break;
+    }
+    return messages;
+}
+
+static size_t apply_one_by_one(const uint8_t *bytes, size_t length) {
+    size_t messages = 0;
+    for (size_t at = 0; at < length;) {
+        ghendufika_applied one = ghendufika_apply(book, bytes + at, length - at, TABLES);
+        printf("m %zu %u\n", ++messages, one.answer);
+        book = one.book;
+        at += one.length;
+        if (one.length == 0) break;
+    }
+    return messages;
+}
+
+static void print_totals(void) {
+    for (unsigned account = 0; account < book.setup.accounts; account++)
+        for (unsigned day = 0; day < book.setup.days; day++) {
+            int64_t kwh[GHENDUFIKA_PLACES_A_DAY];
+            unsigned number = book.setup.first + day;
+            if (ghendufika_day_totals(book, TABLES, (uint8_t)account, (uint16_t)number, kwh, GHENDUFIKA_PLACES_A_DAY) != 0) give_up("totals were refused");
+            for (int p = 0; p < periods_on(day); p++)
+                if (kwh[p] != 0) printf("t %u %u %d %lld\n", account, number, p + 1, (long long)kwh[p]);
+        }
+}
+
+static void print_rows(unsigned slot) {
+    for (unsigned side = 1; side <= 2; side++)
+        for (unsigned day = 0; day < book.setup.days; day++) {
+            unsigned number = book.setup.first + day;
+            if (ghendufika_row_refusal(book, TABLES, (uint8_t)originator_of(slot), (uint16_t)reference_of(slot), (uint16_t)number, (uint8_t)side) != 0) give_up("a row was refused");
+            const int32_t *row = (side == 1 ? side1 : side2) + (slot * book.setup.days + day) * GHENDUFIKA_PLACES_A_DAY;
+            printf("r %u %u %u %u", originator_of(slot), reference_of(slot), side, number);
+            for (int p = 0; p < periods_on(day); p++) printf(" %d", row[p]);
+            printf("\n");
+        }
+}
+
+static void print_marks(unsigned slot, unsigned account) {
+    for (unsigned day = 0; day < book.setup.days; day++) {
+        uint8_t cases[GHENDUFIKA_PLACES_A_DAY];
+        double firsts[GHENDUFIKA_PLACES_A_DAY], seconds[GHENDUFIKA_PLACES_A_DAY];
+        unsigned number = book.setup.first + day;
+        if (ghendufika_day_marks(book, TABLES, (uint8_t)originator_of(slot), (uint16_t)reference_of(slot), (uint8_t)account, (uint16_t)number,
+                                 cases, GHENDUFIKA_PLACES_A_DAY, firsts, GHENDUFIKA_PLACES_A_DAY, seconds, GHENDUFIKA_PLACES_A_DAY) != 0) give_up("marks were refused");
+        for (int p = 0; p < periods_on(day); p++)
+            if (cases[p] != 0)
+                printf("k %u %u %u %u %d %u %016llx %016llx\n", originator_of(slot), reference_of(slot), account, number, p + 1, cases[p], bits(firsts[p]), bits(seconds[p]));
+    }
+}
+
+static void print_figures(void) {
+    for (unsigned account = 0; account < book.setup.accounts; account++)
+        for (unsigned day = 0; day < book.setup.days; day++) {
+            ghendufika_figured f = ghendufika_figures(book, TABLES, (uint8_t)account, (uint16_t)(book.setup.first + day));
+            if (f.answer != 0) give_up("figures were refused");
+            printf("f %u %u %016llx %016llx %016llx\n", account, book.setup.first + day, bits(f.day.sold), bits(f.day.bought), bits(f.day.net));
+        }
+}
+
+static void print_all(void) {
+    for (unsigned slot = 0; slot < SLOTS; slot++)
+        if (held[slot] != 0) printf("i %u %u %u\n", slot, originator_of(slot), reference_of(slot));
+    for (unsigned slot = 0; slot < SLOTS; slot++)
+        if (held[slot] != 0) print_rows(slot);
+    for (unsigned slot = 0; slot < SLOTS; slot++)
+        if (held[slot] != 0) {
+            print_marks(slot, book.setup.rows[originator_of(slot)].account1);
+            print_marks(slot, book.setup.rows[originator_of(slot)].account2);
+        }
+    print_figures();
+}
+
+int main(int argc, char **argv) {
+    int all = 0, one = 0;
+    for (int k = 1; k < argc; k++) {
+        all = all || strcmp(argv[k], "all") == 0;
+        one = one || strcmp(argv[k], "one") == 0;
+    }
+    size_t length = 0, room = 1 << 16;
+    uint8_t *bytes = malloc(room);
+    for (size_t got; bytes != NULL && (got = fread(bytes + length, 1, room - length, stdin)) > 0;) {
+        length += got;
+        if (length == room) bytes = realloc(bytes, room *= 2);
+    }
+    if (bytes == NULL) give_up("no memory");
+
+    size_t days = length > 2 ? bytes[2] >> 4 : 0; /* bits 16 to 19 of a packed setup */
+    lent = SLOTS * days * GHENDUFIKA_PLACES_A_DAY;
+    ghendufika_setup_read read = ghendufika_read_setup(bytes, length, SLOTS, lent, lent);
+    if (read.answer != 0) {
+        printf("setup %u\n", read.answer);
+        return 0;
+    }
+    ghendufika_opened opened = ghendufika_open(read.setup, TABLES);
+    if (opened.answer != 0) give_up("a setup that was read is not opened");
+    book = opened.book;
+
+    printf("sheet %u %u %u\n", book.setup.first, book.setup.days, book.setup.accounts);
+    const uint8_t *messages = bytes + read.length;
+    size_t seen = one ? apply_one_by_one(messages, length - read.length) : apply_runs(messages, length - read.length);
+    if (!ghendufika_is_sound(book, TABLES)) give_up("the book is not sound any more");
+    print_totals();
+    printf("end %zu\n", seen);
+    if (all) print_all();
+    free(bytes);
+    return 0;
+}
