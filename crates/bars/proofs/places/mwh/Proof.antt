@@ -1,5 +1,8 @@
 -- The number is below 2 ^ 53 either way, so it is made a float exactly.
+use mathlib.Core.Path.{ap, ap₂}
+use lib.Ieee.{binary64, ofInt, div}
 use mir.Facts.{toZ-ofZ}
+use mir.Syntax.{w64}
 use Rattle.meaning.specs.Totals.{mwh}
 use Rattle.bars.proofs.MarkLaws.{thousand-bits, small-in-float}
 use Rattle.bars.proofs.places.mwh.Statement.{statement}
@@ -12,7 +15,7 @@ int-to-float-result c =
 
 returns : tie.Need-returns
 unfolding mwh
-returns c = rw (toZ-ofZ (c .before .fits .kwh), thousand-bits)
+returns c = ap₂ (div binary64) (ap (ofInt binary64) (toZ-ofZ {w = w64} (c .before .fits .kwh))) thousand-bits
 
 pub mwh-spec : {M : Type 1} → statement M
 mwh-spec = tie.close (tie.spec int-to-float-result returns)

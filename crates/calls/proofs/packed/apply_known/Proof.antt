@@ -47,7 +47,8 @@ returns : tie.Need-returns
 returns c =
     let p = c .before .before in
     let a = start p .args in
-    rw (number p) (unread-applies (a .b) (now (a .held)) (now (a .side1)) (now (a .side2)) (bytes p) (λ z. c .if1 .taken (number p ∙ z)))
+    let u = unread-applies (a .b) (now (a .held)) (now (a .side1)) (now (a .side2)) (bytes p) (λ z. c .if1 .taken (number p ∙ z)) in
+    (ap (λ (k : ℕ). record { answer = k; length = 0; book = a .b }) (number p) ∙ u .0, u .1, u .2, u .3)
 
 returns-2 : tie.Need-returns-2
 returns-2 c =
