@@ -5,3 +5,4 @@ pub mod GateLaws
 pub mod OpeningLaws
 pub mod CheckLaws
 pub mod UniqueState
+pub mod PackedOpening

@@ -6,12 +6,15 @@ use lib.ListN.{length, replicate}
 use Rattle.words.specs.Tests.{if_then_else_, _=?_}
 use Rattle.meaning.specs.Time.{everyGateClosed}
 use Rattle.meaning.specs.Ledgers.{theMark}
+use Rattle.meaning.specs.Books as Meaning
+use Rattle.meaning.specs.PackedMessages.{Reading}
 use Rattle.setups.specs.declared.Setup.{Setup}
-use Rattle.setups.specs.Structs.{noSetupStruct}
+use Rattle.setups.specs.Structs.{noSetupStruct, setupFor}
 use Rattle.book.specs.Structs.{timeIn}
 use Rattle.book.specs.declared.Book.{Book}
 use Rattle.book.specs.declared.Gated.{Gated}
 use Rattle.book.specs.declared.Opened.{Opened}
+use Rattle.book.specs.declared.OpenedPacked.{OpenedPacked}
 
 -- ---- closing a gate: one more is closed, and with a refusal the book is as it came
 
@@ -38,3 +41,8 @@ heldOpened answer held = if answer =? 0 then replicate (length held) 0 else held
 
 unfoldable pub sideOpened : ℕ → List ℤ → List ℤ
 sideOpened answer side = if answer =? 0 then replicate (length side) theMark else side
+
+-- from a packed setup: what reading refuses is not opened, and what it reads always is
+unfoldable pub openedPacked : Reading Meaning.Setup → OpenedPacked
+openedPacked read =
+    record { answer = read .answer; length = read .length; book = opened (setupFor (read .read)) (read .answer) .book }

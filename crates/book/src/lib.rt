@@ -26,3 +26,11 @@ pub struct Opened {
     pub answer: u8,
     pub book: Book,
 }
+
+// The length is that of the packed setup. With a refusal it is 0, and the book all zero.
+#[repr(C)]
+pub struct OpenedPacked {
+    pub answer: u8,
+    pub length: usize,
+    pub book: Book,
+}

@@ -1,13 +1,15 @@
 // "Opening closes no gate, holds no identifier and sets every place to the mark." The setup rules are 17 and 18.
 use crate::Book;
 use crate::Opened;
+use crate::OpenedPacked;
 ghost use mathlib.Core.Path.{_≡_};
 ghost use lib.ListN.{length, replicate};
 ghost use Rattle.words.specs.Rules.{answer};
 ghost use Rattle.meaning.specs.Ledgers.{theMark};
 ghost use Rattle.meaning.specs.Books.{openingRules};
+ghost use Rattle.meaning.specs.PackedSetups.{readSetup};
 ghost use Rattle.setups.specs.Structs.{setupOf};
-ghost use Rattle.book.specs.Answers.{noBook, opened, heldOpened, sideOpened};
+ghost use Rattle.book.specs.Answers.{noBook, opened, openedPacked, heldOpened, sideOpened};
 
 // The number that refuses this setup with so many slots and two lent tables of these lengths, or 0.
 pub fn opening_refusal(s: setups::Setup, slots: usize, lent1: usize, lent2: usize) -> u8
@@ -90,4 +92,27 @@ pub fn open(s: setups::Setup, held: &mut [u32], side1: &mut [i32], side2: &mut [
         closed: 0,
     };
     Opened { answer: 0, book: b }
+}
+
+// A book from a packed setup. A refused setup reads as all zero, which opening refuses too and so leaves the tables alone; one that was read is
+// always opened.
+pub fn open_packed(
+    bytes: &[u8],
+    held: &mut [u32],
+    side1: &mut [i32],
+    side2: &mut [i32],
+) -> OpenedPacked
+    ensures { λ r. do
+      let read = readSetup (now (bytes .entry)) (length (now (held .entry))) (length (now (side1 .entry))) (length (now (side2 .entry)))
+      ⌜ (r ≡ openedPacked read) × (now (held .exit) ≡ heldOpened (read .answer) (now (held .entry))) × (now (side1 .exit) ≡ sideOpened (read .answer) (now (side1 .entry))) × (now (side2 .exit) ≡ sideOpened (read .answer) (now (side2 .entry))) ⌝ }
+{
+    let read = setups::reading::read_setup(bytes, held.len(), side1.len(), side2.len());
+    let setup = read.setup;
+    let done = open(setup, held, side1, side2);
+    let book = done.book;
+    OpenedPacked {
+        answer: read.answer,
+        length: read.length,
+        book: book,
+    }
 }

@@ -26,6 +26,7 @@ pub mod EntryValues
 pub mod MessageValues
 pub mod PackedMessageRules
 pub mod PackedCalls
+pub mod LayoutSizes
 pub mod ReadMore
 pub mod EitherWayMessages
 pub mod SetupValues

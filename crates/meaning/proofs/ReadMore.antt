@@ -1,4 +1,5 @@
--- Bytes that do not end too soon are read alike whatever comes behind them. So a stream may be read part by part: only 19 asks for more.
+-- Bytes that do not end too soon are read alike whatever comes behind them. So a stream may be read part by part: only 19 asks for more. Of a setup
+-- the longest that a head can name is enough.
 use mathlib.Core.Bool.{Bool, true, false}
 use mathlib.Core.List.{List, _++_}
 use mathlib.Core.Logic.{_≢_}
@@ -12,22 +13,25 @@ use Rattle.words.specs.Tests.{_<?_, _=?_}
 use Rattle.words.specs.Rules.{answer}
 use Rattle.words.specs.Fields.{fieldAt, total, readAll, bytesFor, padding}
 use Rattle.laws.proofs.Cases.{on}
+use Rattle.laws.proofs.Fields.{field-lt}
 use Rattle.laws.proofs.Padded.{front-field, front-values}
 use Rattle.meaning.specs.PackedMessages.{notificationLayout, layoutFor, kindIn, countIn, layoutIn, readingRules, readMessage, messageFrom, gate}
+use Rattle.meaning.specs.PackedSetups.{headLayout, setupLayoutFor, setupLayoutIn, setupIn, setupReadingRules, readSetup}
+use Rattle.meaning.proofs.LayoutSizes.{bits-setup}
 
 module _ (s later : List ℕ) where
   abbrev whole : List ℕ
   whole = s ++ later
 
-  field-stays : (p w : ℕ) → p + w ≤ length s * 8 → fieldAt whole p w ≡ fieldAt s p w
+  pub field-stays : (p w : ℕ) → p + w ≤ length s * 8 → fieldAt whole p w ≡ fieldAt s p w
   field-stays p w h =
       ap (λ (x : List ℕ). fieldAt (x ++ later) p w) (sym (take-length s)) ∙ front-field s later (length s) p w (omega arith) h
 
-  values-stay : (ws : List ℕ) → total ws ≤ length s * 8 → readAll whole 0 ws ≡ readAll s 0 ws
+  pub values-stay : (ws : List ℕ) → total ws ≤ length s * 8 → readAll whole 0 ws ≡ readAll s 0 ws
   values-stay ws h =
       ap (λ (x : List ℕ). readAll (x ++ later) 0 ws) (sym (take-length s)) ∙ front-values s later (length s) 0 ws (omega arith) (omega arith)
 
-  longer : length s ≤ length whole
+  pub longer : length s ≤ length whole
   longer = omega (arith, length-append s later)
 
   kind-stays : length s ≢ 0 → kindIn whole ≡ kindIn s
@@ -73,3 +77,27 @@ module _ (s later : List ℕ) where
       let filled = field-stays (total (layoutIn s)) (padding (layoutIn s)) (omega (arith, all)) in
       let read = values-stay (layoutIn s) (omega (arith, all)) in
       rw (z, t0, kind-stays some, k, h, t2, count-stays some head, c, layout-stays some head, w, t4, filled, read))))))
+
+  -- 15 days and 127 authorisations, which is as much as their fields hold, make a setup of 1,247 bytes
+  setup-most : bytesFor (setupLayoutIn s) ≤ 1247
+  unfolding setupLayoutIn
+  setup-most = omega (arith, bits-setup (fieldAt s 16 4) (fieldAt s 27 7), field-lt s 16 4, field-lt s 27 7)
+
+  module _ (enough : 1247 ≤ length s) where
+    setup-layout-stays : setupLayoutIn whole ≡ setupLayoutIn s
+    unfolding setupLayoutIn
+    setup-layout-stays = rw (field-stays 16 4 (omega arith), field-stays 27 7 (omega arith))
+
+    setup-in-stays : setupIn whole ≡ setupIn s
+    unfolding setupIn
+    setup-in-stays = rw (setup-layout-stays, values-stay (setupLayoutIn s) (omega (arith, setup-most)))
+
+    pub read-setup-more : (slots lent1 lent2 : ℕ) → readSetup whole slots lent1 lent2 ≡ readSetup s slots lent1 lent2
+    unfolding readSetup setupReadingRules
+    read-setup-more slots lent1 lent2 =
+        let t0 : (length whole <? bytesFor headLayout) ≡ (length s <? bytesFor headLayout) =
+        le-ltb (length whole) 5 (omega (arith, longer)) ∙ sym (le-ltb (length s) 5 (omega arith)) in
+        let t1 : (length whole <? bytesFor (setupLayoutIn s)) ≡ (length s <? bytesFor (setupLayoutIn s)) =
+        le-ltb (length whole) (bytesFor (setupLayoutIn s)) (omega (arith, longer, setup-most)) ∙ sym (le-ltb (length s) (bytesFor (setupLayoutIn s)) (omega (arith, setup-most))) in
+        let filled = field-stays (total (setupLayoutIn s)) (padding (setupLayoutIn s)) (omega (arith, setup-most)) in
+        rw (t0, setup-layout-stays, setup-in-stays, t1, filled)

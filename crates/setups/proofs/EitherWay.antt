@@ -61,7 +61,7 @@ written-setup-reads s out slots lent1 lent2 e h =
     (ap (λ (x : Setup). record { answer = 0; length = writeSetup (setupOf s) out .length; setup = x }) (setup-settled s))
 
 -- a setup that is read is what its struct holds
-read-holds : (bytes : List ℕ) (slots lent1 lent2 : ℕ) → readSetup bytes slots lent1 lent2 .answer ≡ 0
+pub read-holds : (bytes : List ℕ) (slots lent1 lent2 : ℕ) → readSetup bytes slots lent1 lent2 .answer ≡ 0
     → setupOf (setupFor (readSetup bytes slots lent1 lent2 .read)) ≡ readSetup bytes slots lent1 lent2 .read
 read-holds bytes slots lent1 lent2 e =
     let a = sym (setup-reading-answer bytes slots lent1 lent2) ∙ e in

@@ -1,5 +1,4 @@
 -- Laws that the functions' proofs share; the round trips in the code's terms; and that no two outcomes meet one promise.
-pub mod LayoutSizes
 pub mod SetupHeld
 pub mod ValuesFit
 pub mod ReadParts

@@ -26,7 +26,7 @@ use Rattle.setups.specs.declared.Setup.{Setup}
 use Rattle.setups.specs.declared.SetupRead.{SetupRead}
 use Rattle.setups.specs.Structs.{codesOf, noAuthorisation, noSetupStruct, rowFor, rowOf, rowsOf, setupFor, setupOf, setupRead}
 use Rattle.setups.specs.Parts.{codesIn, rowIn, rowsIn, setupStructIn}
-use Rattle.setups.proofs.LayoutSizes.{bits-setup}
+use Rattle.meaning.proofs.LayoutSizes.{bits-setup}
 use Rattle.setups.proofs.SetupHeld.{codes-own, rows-own}
 
 -- ---- counts that are not wrong

@@ -24,7 +24,7 @@ use Rattle.setups.specs.Structs.{noAuthorisation, rowOf, rowsOf, codesOf
 use Rattle.setups.specs.Writing.{codesInto, rowInto, rowsInto, setupInto}
 use Rattle.setups.specs.declared.Authorisation.{Authorisation}
 use Rattle.setups.specs.declared.Setup.{Setup}
-use Rattle.setups.proofs.LayoutSizes.{bits-setup}
+use Rattle.meaning.proofs.LayoutSizes.{bits-setup}
 use Rattle.setups.proofs.SetupHeld.{codes-own, rows-own}
 use Rattle.setups.proofs.ValuesFit.{Counted, cells, layout-own}
 

@@ -1,7 +1,7 @@
 -- The head's bits, two for a day, and those of the rows.
 use borrow.Author.Needs.{needs}
 use native.Mathlib.Omega.{arith}
-use Rattle.setups.proofs.LayoutSizes.{bits-setup}
+use Rattle.meaning.proofs.LayoutSizes.{bits-setup}
 use Rattle.setups.proofs.reading.bits_for.Statement.{statement}
 use Rattle.setups.proofs.reading.bits_for.Tie as tie
 

@@ -1,7 +1,7 @@
 -- The bits, rounded up to bytes.
 use borrow.Author.Needs.{needs}
 use native.Mathlib.Omega.{arith}
-use Rattle.setups.proofs.LayoutSizes.{bits-setup}
+use Rattle.meaning.proofs.LayoutSizes.{bits-setup}
 use Rattle.setups.proofs.reading.bytes_for.Statement.{statement}
 use Rattle.setups.proofs.reading.bytes_for.Tie as tie
 

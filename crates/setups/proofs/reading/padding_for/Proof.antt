@@ -1,7 +1,7 @@
 -- What rounding up adds.
 use borrow.Author.Needs.{needs}
 use native.Mathlib.Omega.{arith}
-use Rattle.setups.proofs.LayoutSizes.{bits-setup}
+use Rattle.meaning.proofs.LayoutSizes.{bits-setup}
 use Rattle.setups.proofs.reading.padding_for.Statement.{statement}
 use Rattle.setups.proofs.reading.padding_for.Tie as tie
 

@@ -1,0 +1,3 @@
+-- Input that comes in parts prints the same sheet.
+pub mod InParts
+pub mod ByTurns

@@ -1,0 +1,88 @@
+-- What is kept lies within the buffer, and no length changes. The measure is the number of turns that are left.
+use borrow.Author.Needs.{needs}
+use mathlib.Core.Path.{_≡_, refl, sym, _∙_}
+use Prim.Native.Nat.{_≤_, _<_}
+use native.Mathlib.Omega.{arith}
+use borrow.Author.Tests.{ltb-true}
+use lib.Dec.{ltb}
+use lib.ListN.{length}
+use Rattle.laws.proofs.Cases.{and-left}
+use Rattle.sheet.proofs.print_messages.Statement.{statement}
+use Rattle.sheet.proofs.print_messages.Tie as tie
+
+abbrev Inv-loop : tie.InvT-loop
+Inv-loop bytes₀ held₀ side1₀ side2₀ out₀ answers₀ progress₀ turns-left₀ bytes held side1 side2 out answers progress turns-left =
+    (progress .kept ≤ length bytes) × (length bytes ≡ length bytes₀) × (length held ≡ length held₀) × (length side1 ≡ length side1₀) × (length side2 ≡ length side2₀) × (length out ≡ length out₀)
+    × (2048 ≡ length answers)
+
+abbrev μ-loop : tie.MeasureT-loop
+μ-loop bytes₀ held₀ side1₀ side2₀ out₀ answers₀ progress₀ turns-left₀ bytes held side1 side2 out answers progress turns-left =
+    turns-left
+
+input-buffer-requires : tie.Need-input-buffer-requires Inv-loop μ-loop
+input-buffer-requires c κs = search needs
+
+loop-holds : tie.Need-loop-holds Inv-loop μ-loop
+loop-holds c = (c .before .before .before .before .pre, refl, refl, refl, refl, refl, c .input-buffer .ensures)
+
+slice-aggregate-take-turn : tie.Need-slice-aggregate-take-turn Inv-loop μ-loop
+slice-aggregate-take-turn c = search needs
+
+take-turn-requires : tie.Need-take-turn-requires Inv-loop μ-loop
+take-turn-requires c κs = search needs
+
+-- in a turn the first test holds
+some-left : (c : tie.After-slice-known6 Inv-loop μ-loop) → 0 < c .before .before .before .before .before .before .before .before .before .before .before .before .before .before .before .before .before .before .loop .turns-left
+some-left c =
+    let l = c .before .before .before .before .before .before .before .before .before .before .before .before .before .before .before .before .before .before .loop in
+    ltb-true 0 (l .turns-left) (and-left (ltb 0 (l .turns-left)) (l .progress .going) (c .before .before .before .before .before .before .before .before .before .before .before .before .before .before .before .before .if1 .taken))
+
+sub-turns-left : tie.Need-sub-turns-left Inv-loop μ-loop
+sub-turns-left c = omega (arith, some-left c)
+
+loop-less : tie.Need-loop-less Inv-loop μ-loop
+loop-less c = omega (arith, some-left c)
+
+loop-again : tie.Need-loop-again Inv-loop μ-loop
+loop-again c =
+    let t = c .before .before .before .before .before .before .before .before .before .take-turn in
+    let i = c .before .before .before .before .before .before .before .before .before .before .before .before .before .before .before .before .before .before .loop .inv in
+    (t .ensures, t .kept .1 .0 ∙ i .1, t .kept .1 .1 .0 ∙ i .2, t .kept .1 .1 .1 .0 ∙ i .3, t .kept .1 .1 .1 .1 .0 ∙ i .4, t .kept .1 .1 .1 .1 .1 .1 .0 ∙ i .5, i .6 ∙ sym (t .kept .1 .1 .1 .1 .1 .0))
+
+same-length : tie.Need-same-length Inv-loop μ-loop
+same-length c = c .before .before .loop .inv .1
+
+same-length-2 : tie.Need-same-length-2 Inv-loop μ-loop
+same-length-2 c = c .before .before .loop .inv .2
+
+same-length-3 : tie.Need-same-length-3 Inv-loop μ-loop
+same-length-3 c = c .before .before .loop .inv .3
+
+same-length-4 : tie.Need-same-length-4 Inv-loop μ-loop
+same-length-4 c = c .before .before .loop .inv .4
+
+same-length-5 : tie.Need-same-length-5 Inv-loop μ-loop
+same-length-5 c = c .before .before .loop .inv .5
+
+returns : tie.Need-returns Inv-loop μ-loop
+returns c = search needs
+
+pub print-messages-spec : {M : Type 1} → statement M
+print-messages-spec =
+    tie.close
+    (tie.spec
+    Inv-loop
+    μ-loop
+    input-buffer-requires
+    loop-holds
+    slice-aggregate-take-turn
+    take-turn-requires
+    sub-turns-left
+    loop-less
+    loop-again
+    same-length
+    same-length-2
+    same-length-3
+    same-length-4
+    same-length-5
+    returns)

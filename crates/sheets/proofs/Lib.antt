@@ -1,0 +1,8 @@
+-- What is proved about the parts of the sheet program.
+pub mod Answers
+pub mod LineLaws
+pub mod DayLaws
+pub mod TurnLaws
+pub mod FirstLaws
+pub mod KeptLaws
+pub mod Room

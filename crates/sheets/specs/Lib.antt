@@ -1,0 +1,2 @@
+-- What the parts of the sheet program give.
+pub mod Parts
