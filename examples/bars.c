@@ -174,7 +174,8 @@ static void begin_picture(const picture *to) {
     fprintf(to->file,
             "<svg xmlns=\"http://www.w3.org/2000/svg\" viewBox=\"0 0 %d %d\" width=\"%d\" height=\"%d\" font-family=\"sans-serif\" font-size=\"13\">\n"
             "<style>.agreed{fill:#0072b2;stroke:#0072b2}.disagreed{fill:url(#hatch);stroke:#a63c00}.own{fill:#fff;stroke:#222;stroke-width:2}"
-            ".other{fill:#fff;stroke:#222;stroke-width:1.5;stroke-dasharray:3 2}.closed{fill:#e4e4e4}.tick{stroke:#c8c8c8}.axis{stroke:#000;stroke-width:1.5}</style>\n"
+            ".other{fill:#fff;stroke:#222;stroke-width:1.5;stroke-dasharray:3 2}.closed{fill:#e4e4e4}.tick{stroke:#c8c8c8}"
+            ".axis{stroke:#000;stroke-width:1.5}</style>\n"
             "<defs><pattern id=\"hatch\" width=\"5\" height=\"5\" patternUnits=\"userSpaceOnUse\" patternTransform=\"rotate(45)\">"
             "<rect width=\"5\" height=\"5\" fill=\"#fff\"/><rect width=\"2.2\" height=\"5\" fill=\"#d55e00\"/></pattern></defs>\n"
             "<rect width=\"%d\" height=\"%d\" fill=\"#fff\"/>\n", WIDTH, HEIGHT, WIDTH, HEIGHT, WIDTH, HEIGHT);
@@ -254,7 +255,7 @@ static void draw_figure(const picture *to, const identifier *one, unsigned perio
     fprintf(to->file, "<rect class=\"%s\" x=\"%.1f\" y=\"%.2f\" width=\"%d\" height=\"%.2f\">", classes[shown->standing], x, top,
             BAR / 2 * (last_half - first_half + 1), height);
     fprintf(to->file, "<title>period %u, %u/%u with account %u, %s: %s %.3f MWh</title></rect>\n", period, one->originator, one->reference, one->other,
-            standing_words[shown->standing], mwh < 0 ? "bought" : "sold", size);
+            standing_words[shown->standing], mwh < 0 ? "bought" : mwh > 0 ? "sold" : "stated", size);
     if (mwh != 0)
         for (int half = first_half; half <= last_half; half++) taken[half] += height;
 }
@@ -286,7 +287,8 @@ static void draw_legend(const picture *to) {
         fprintf(to->file, "<rect class=\"%s\" x=\"%d\" y=\"442\" width=\"14\" height=\"14\"/>\n", entries[k].look, entries[k].x);
         text_at(to, entries[k].x + 20, 453, "font-size=\"12\"", "%s", entries[k].words);
     }
-    text_at(to, LEFT, 476, "font-size=\"12\" fill=\"#444\"", "Only agreed volumes count. A flat mark on the line is a stated zero; where nothing stands there is none.");
+    text_at(to, LEFT, 476, "font-size=\"12\" fill=\"#444\"",
+            "Only agreed volumes count. A flat mark on the line is a stated zero; where nothing stands there is none.");
 }
 
 static void draw_words(const picture *to, const view *seen) {
@@ -298,7 +300,8 @@ static void draw_words(const picture *to, const view *seen) {
     if (is_cut_short(told))
         text_at(to, LEFT, 92, "font-weight=\"bold\" fill=\"#a00000\"", "Message %zu could not be read (%s): what came behind it is not here.", told->messages,
                 words_of(told->answers[told->messages - 1]));
-    else if (seen->tally[NOTHING][1] == seen->periods * seen->count) text_at(to, LEFT, 92, "font-weight=\"bold\"", "Nothing stands for this account on this day.");
+    else if (seen->tally[NOTHING][1] == seen->periods * seen->count)
+        text_at(to, LEFT, 92, "font-weight=\"bold\"", "Nothing stands for this account on this day.");
 }
 
 static void draw(const picture *to, const view *seen) {

@@ -14,7 +14,7 @@ enum { BLANK, ONE_SIDE, MATCHED, DIFFERENT }; /* the cases of ghendufika_day_mar
 
 typedef struct {
     int64_t matched_kwh;
-    unsigned matched, zero, different, one_side; /* places; `zero` is those of `matched` that are not listed */
+    unsigned matched, zero, different, one_side; /* places; `zero` is those of `matched` where both say zero */
     unsigned identifiers;
 } totals;
 
@@ -59,8 +59,9 @@ static void check_day(totals *sum, const story *told, unsigned slot, unsigned da
     unsigned originator = originator_of(told, slot);
     uint8_t cases[GHENDUFIKA_PLACES_A_DAY];
     double firsts[GHENDUFIKA_PLACES_A_DAY], seconds[GHENDUFIKA_PLACES_A_DAY];
-    uint8_t answer = ghendufika_day_marks(told->book, LENT(told), (uint8_t)originator, (uint16_t)reference_of(told, slot), told->book.setup.rows[originator].account1,
-                                          (uint16_t)day, cases, GHENDUFIKA_PLACES_A_DAY, firsts, GHENDUFIKA_PLACES_A_DAY, seconds, GHENDUFIKA_PLACES_A_DAY);
+    uint8_t account1 = told->book.setup.rows[originator].account1;
+    uint8_t answer = ghendufika_day_marks(told->book, LENT(told), (uint8_t)originator, (uint16_t)reference_of(told, slot), account1, (uint16_t)day,
+                                          cases, GHENDUFIKA_PLACES_A_DAY, firsts, GHENDUFIKA_PLACES_A_DAY, seconds, GHENDUFIKA_PLACES_A_DAY);
     if (answer != GHENDUFIKA_DONE) {
         fprintf(stderr, "check_feedback: marks refused by %u (%s)\n", answer, words_of(answer));
         exit(2);
@@ -89,8 +90,8 @@ static totals check_pair(const story *told, unsigned account1, unsigned account2
     for (unsigned slot = 0; slot < SLOTS; slot++)
         for (unsigned k = 0; k < told->book.setup.days && is_between(told, slot, account1, account2); k++)
             check_day(&sum, told, slot, told->book.setup.first + k);
-    printf("accounts %u and %u: %u identifiers, matched %" PRId64 " kWh in %u places (%u at zero), different %u, one side %u\n", account1, account2,
-           sum.identifiers, sum.matched_kwh, sum.matched, sum.zero, sum.different, sum.one_side);
+    printf("accounts %u and %u: matched %" PRId64 " kWh; identifiers %u, places matched %u (%u of them zero), different %u, one side %u\n", account1, account2,
+           sum.matched_kwh, sum.identifiers, sum.matched, sum.zero, sum.different, sum.one_side);
     return sum;
 }
 
@@ -118,8 +119,8 @@ static int check(const story *told) {
             pairs += pair.identifiers > 0;
             add(&sum, &pair);
         }
-    printf("\n%u pairs, %u identifiers: %u places matched (%u at zero%s), %u different, %u one side; %zu messages refused\n", pairs, sum.identifiers, sum.matched,
-           sum.zero, list_all ? "" : ", not listed", sum.different, sum.one_side, refused);
+    printf("\nin all: pairs %u, identifiers %u, places matched %u (%u of them zero%s), different %u, one side %u, messages refused %zu\n", pairs,
+           sum.identifiers, sum.matched, sum.zero, list_all ? "" : " and not listed", sum.different, sum.one_side, refused);
     bool settled = sum.different == 0 && sum.one_side == 0 && refused == 0;
     printf(settled ? "Nothing to ask the other side about.\n" : "To be cleared: only matched places count in anybody's position.\n");
     return settled ? 0 : 1;

@@ -14,8 +14,8 @@ static void write_setup(const struct setup *setup) {
 static void notify_day(unsigned authorisation, unsigned agent, unsigned key, unsigned reference, unsigned count, const struct entry *entries) {
     struct message message = {.kind = NOTIFICATION};
     uint8_t bytes[MOST_MESSAGE_BYTES];
-    message.notification = (struct notification){
-        .authorisation = authorisation, .agent = agent, .key = key, .originator = authorisation, .reference = reference, .first_day = 100, .last_day = 100, .count = count};
+    message.notification = (struct notification){.authorisation = authorisation, .agent = agent, .key = key, .originator = authorisation,
+                                                 .reference = reference, .first_day = 100, .last_day = 100, .count = count};
     memcpy(message.notification.entry, entries, count * sizeof entries[0]);
     fwrite(bytes, 1, pack_message(&message, bytes), stdout);
 }
