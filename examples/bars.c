@@ -239,7 +239,7 @@ static void draw_scale(const picture *to, const view *seen) {
     text_at(to, 0, 0, "transform=\"translate(16 177) rotate(-90)\" text-anchor=\"middle\" font-weight=\"bold\"", "sold, MWh");
     text_at(to, 0, 0, "transform=\"translate(16 327) rotate(-90)\" text-anchor=\"middle\" font-weight=\"bold\"", "bought, MWh");
     for (unsigned period = 1; period <= seen->periods; period++)
-        text_at(to, LEFT + COLUMN * (period - 0.5), AXIS + HALF + 16, "text-anchor=\"middle\" font-size=\"10\"", "%u", period);
+        text_at(to, LEFT + COLUMN * (period - 0.5), AXIS + HALF + 16, "text-anchor=\"middle\" font-size=\"10\" class=\"period\"", "%u", period);
     text_at(to, LEFT - 8, AXIS + HALF + 16, "text-anchor=\"end\" font-size=\"12\"", "period");
 }
 
