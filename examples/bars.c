@@ -173,7 +173,7 @@ static void text_at(const picture *to, double x, double y, const char *attribute
 static void begin_picture(const picture *to) {
     fprintf(to->file,
             "<svg xmlns=\"http://www.w3.org/2000/svg\" viewBox=\"0 0 %d %d\" width=\"%d\" height=\"%d\" font-family=\"sans-serif\" font-size=\"13\">\n"
-            "<style>.agreed{fill:#0072b2;stroke:#0072b2}.disagreed{fill:url(#hatch);stroke:#a63c00}.own{fill:#fff;stroke:#222;stroke-width:2}"
+            "<style>.agreed{fill:#0072b2;stroke:#fff;stroke-width:.6}.disagreed{fill:url(#hatch);stroke:#a63c00}.own{fill:#fff;stroke:#222;stroke-width:2}"
             ".other{fill:#fff;stroke:#222;stroke-width:1.5;stroke-dasharray:3 2}.closed{fill:#e4e4e4}.tick{stroke:#c8c8c8}"
             ".axis{stroke:#000;stroke-width:1.5}</style>\n"
             "<defs><pattern id=\"hatch\" width=\"5\" height=\"5\" patternUnits=\"userSpaceOnUse\" patternTransform=\"rotate(45)\">"
@@ -236,11 +236,11 @@ static void draw_scale(const picture *to, const view *seen) {
         if (kwh > 0) draw_tick(to, -kwh, step, right);
     }
     fprintf(to->file, "<line class=\"axis\" x1=\"%d\" x2=\"%.0f\" y1=\"%d\" y2=\"%d\"/>\n", LEFT, right, AXIS, AXIS);
-    text_at(to, 0, 0, "transform=\"translate(16 177) rotate(-90)\" text-anchor=\"middle\" font-weight=\"bold\"", "sold, MWh");
-    text_at(to, 0, 0, "transform=\"translate(16 327) rotate(-90)\" text-anchor=\"middle\" font-weight=\"bold\"", "bought, MWh");
+    text_at(to, 0, 0, "transform=\"translate(14 177) rotate(-90)\" text-anchor=\"middle\" font-weight=\"bold\"", "sold, MWh");
+    text_at(to, 0, 0, "transform=\"translate(14 327) rotate(-90)\" text-anchor=\"middle\" font-weight=\"bold\"", "bought, MWh");
     for (unsigned period = 1; period <= seen->periods; period++)
-        text_at(to, LEFT + COLUMN * (period - 0.5), AXIS + HALF + 16, "text-anchor=\"middle\" font-size=\"10\" class=\"period\"", "%u", period);
-    text_at(to, LEFT - 8, AXIS + HALF + 16, "text-anchor=\"end\" font-size=\"12\"", "period");
+        text_at(to, LEFT + COLUMN * (period - 0.5), AXIS + HALF + 20, "text-anchor=\"middle\" font-size=\"10\" class=\"period\"", "%u", period);
+    text_at(to, LEFT - 8, AXIS + HALF + 20, "text-anchor=\"end\" font-size=\"12\"", "period");
 }
 
 /* A bar's figure as a rectangle on what its halves hold already: from the left to the right half, or one of them alone. */
@@ -298,7 +298,7 @@ static void draw_words(const picture *to, const view *seen) {
     text_at(to, LEFT, 72, "", "not agreed yet: %u disagreed, %u said by this account only, %u said by the other only", seen->tally[DISAGREED][0],
             seen->tally[OWN_ONLY][0], seen->tally[OTHER_ONLY][0]);
     if (is_cut_short(told))
-        text_at(to, LEFT, 92, "font-weight=\"bold\" fill=\"#a00000\"", "Message %zu could not be read (%s): what came behind it is not here.", told->messages,
+        text_at(to, LEFT, 92, "font-weight=\"bold\" fill=\"#a00000\"", "Message %zu could not be read (%s): it and what came behind it are missing.", told->messages,
                 words_of(told->answers[told->messages - 1]));
     else if (seen->tally[NOTHING][1] == seen->periods * seen->count)
         text_at(to, LEFT, 92, "font-weight=\"bold\"", "Nothing stands for this account on this day.");
@@ -318,7 +318,8 @@ static bool write_picture(const char *path, const view *seen, const char *refusa
     picture to = {fopen(path, "w"), 1};
     if (to.file == NULL) return false;
     double longest = refusal == NULL ? longest_stack(seen) : 0;
-    to.pixels_a_kwh = longest == 0 ? HALF / 1000.0 : (HALF - SLOTS * SMALLEST) / longest;
+    /* Even a stack of which all but one are too small for the scale stays inside; without a volume the scale is of 1 MWh. */
+    to.pixels_a_kwh = (HALF - SLOTS * SMALLEST) / (longest > 0 ? longest : 1000);
     begin_picture(&to);
     if (refusal == NULL) draw(&to, seen);
     else {

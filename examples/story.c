@@ -80,7 +80,8 @@ const char *words_of(uint8_t answer) {
         "a volume out of range", "a replacement, and the type is additional", "an additional, and the type is replacement",
         "identifier not held and every slot held", "account not in the book, not in the pair, or the two equal", "no such day number, period or side",
         "setup counts, day code, last day or lent lengths wrong", "an authorisation row wrong", "bytes end too soon", "message kind 3",
-        "more than 50 entries", "a padding bit is 1"};
+        "more than 50 entries", "a padding bit is 1", "a value does not fit its field, or more than 50 entries to write", "no room for the packed message",
+        "identifier not held", "an account total beyond 99,999,999,999 either way"};
     return answer < sizeof words / sizeof words[0] ? words[answer] : "unknown";
 }
 
