@@ -12,6 +12,7 @@
 /* ---- what the account is shown */
 
 enum { BLANK, ONE_SIDE, MATCHED, DIFFERENT }; /* the cases of ghendufika_day_marks */
+enum { NOT_IN_THE_PAIR = 15 };                /* of its answers, the one that is no fault */
 enum standing { AGREED, DISAGREED, OWN_ONLY, OTHER_ONLY, NOTHING, STANDINGS };
 
 /* What an identifier says of a period: this account's side and the other's, in MWh with plus for sold. A side that says nothing has 0. */
@@ -44,14 +45,15 @@ static bar bar_of(uint8_t case_number, double first, double second, bool on_side
     return (bar){NOTHING, 0, 0};
 }
 
-static void look_at(view *seen, unsigned slot) {
+/* The number that refuses the question, or 0; an identifier of other accounts is passed over. */
+static uint8_t look_at(view *seen, unsigned slot) {
     const story *told = seen->told;
     unsigned originator = originator_of(told, slot), reference = reference_of(told, slot);
     uint8_t cases[GHENDUFIKA_PLACES_A_DAY];
     double firsts[GHENDUFIKA_PLACES_A_DAY], seconds[GHENDUFIKA_PLACES_A_DAY];
     uint8_t answer = ghendufika_day_marks(told->book, LENT(told), (uint8_t)originator, (uint16_t)reference, (uint8_t)seen->account, (uint16_t)seen->day,
                                           cases, GHENDUFIKA_PLACES_A_DAY, firsts, GHENDUFIKA_PLACES_A_DAY, seconds, GHENDUFIKA_PLACES_A_DAY);
-    if (answer != GHENDUFIKA_DONE) return; /* 15: the account is no party to this identifier */
+    if (answer != GHENDUFIKA_DONE) return answer == NOT_IN_THE_PAIR ? GHENDUFIKA_DONE : answer;
 
     const ghendufika_authorisation *pair = &told->book.setup.rows[originator];
     bool on_side_one = pair->account1 == seen->account;
@@ -66,15 +68,18 @@ static void look_at(view *seen, unsigned slot) {
         one->bars[p] = bar_of(cases[p], firsts[p], seconds[p], on_side_one, own_stands);
         seen->tally[one->bars[p].standing][is_zero(&one->bars[p])]++;
     }
+    return GHENDUFIKA_DONE;
 }
 
 static unsigned gates_closed_on(const story *told, unsigned day) {
     unsigned closed = told->book.closed;
-    for (unsigned earlier = told->book.setup.first; earlier < day; earlier++) closed -= closed < periods_on(told, earlier) ? closed : periods_on(told, earlier);
+    for (unsigned earlier = told->book.setup.first; earlier < day; earlier++) {
+        if (closed <= periods_on(told, earlier)) return 0;
+        closed -= periods_on(told, earlier);
+    }
     return closed < periods_on(told, day) ? closed : periods_on(told, day);
 }
 
-/* The number that refuses the question, or 0. */
 static uint8_t look(view *seen) {
     const story *told = seen->told;
     ghendufika_figured figured = ghendufika_figures(told->book, LENT(told), (uint8_t)seen->account, (uint16_t)seen->day);
@@ -82,9 +87,10 @@ static uint8_t look(view *seen) {
     seen->figures = figured.day;
     seen->periods = periods_on(told, seen->day);
     seen->closed = gates_closed_on(told, seen->day);
-    for (unsigned slot = 0; slot < SLOTS; slot++)
-        if (told->held[slot] != 0) look_at(seen, slot);
-    return GHENDUFIKA_DONE;
+    uint8_t answer = GHENDUFIKA_DONE;
+    for (unsigned slot = 0; slot < SLOTS && answer == GHENDUFIKA_DONE; slot++)
+        if (told->held[slot] != 0) answer = look_at(seen, slot);
+    return answer; /* never a picture that lacks a bar */
 }
 
 /* ---- words */

@@ -16,6 +16,7 @@ SLOTS = 16  # as the sheet program and story.h have
 MARK = -(2**31)
 PLACES_A_DAY = 50
 ONE_SIDE, MATCHED, DIFFERENT = 1, 2, 3  # the cases of ghendufika_day_marks; 0 is blank
+NOT_IN_THE_PAIR = 15
 
 WORDS = (
     "done", "the tables handed in are not a sound book", "every gate is closed", "authorisation number unknown",
@@ -121,8 +122,10 @@ class Story:
         cases, firsts, seconds = (c_uint8 * PLACES_A_DAY)(), (c_double * PLACES_A_DAY)(), (c_double * PLACES_A_DAY)()
         answer = self.library.ghendufika_day_marks(
             self.book, *self.tables, originator, reference, account, day, cases, PLACES_A_DAY, firsts, PLACES_A_DAY, seconds, PLACES_A_DAY)
-        if answer != 0:
+        if answer == NOT_IN_THE_PAIR:
             return None
+        if answer != 0:
+            raise RuntimeError(f"marks refused by {answer} ({WORDS[answer]})")
         pair = self.book.setup.rows[originator]
         on_side_one = pair.account1 == account
         own_side = self.side1 if on_side_one else self.side2

@@ -30,6 +30,7 @@ const char *words_of(uint8_t answer);
 /* The last message could not be read, so nothing behind it was seen. */
 bool is_cut_short(const story *told);
 
+/* The identifier that a slot holds. `held` has 0 for none, else one more than originator * 65536 + reference (docs/DECISIONS.md, 23). */
 unsigned originator_of(const story *told, unsigned slot);
 unsigned reference_of(const story *told, unsigned slot);
 
