@@ -1,0 +1,68 @@
+/* The table of exports and laws; see exports.h. */
+#include "exports.h"
+
+#include "chance.h"
+#include "numbers.h"
+
+struct seen seen_message_refusal = {.name = "message_refusal", .can_come = "0 19 20 21 22"};
+struct seen seen_message_length = {.name = "message_length: 0, 1 some", .can_come = "0 1"};
+struct seen seen_message_field = {.name = "message_field: 0, 1 other", .can_come = "0 1"};
+struct seen seen_read_setup = {.name = "read_setup", .can_come = "0 17 18 19 22"};
+struct seen seen_open = {.name = "open", .can_come = "0 17 18"};
+struct seen seen_is_sound = {.name = "is_sound: 1 yes", .can_come = "0 1"};
+struct seen seen_close_gate = {.name = "close_gate", .can_come = "0 1 2"};
+struct seen seen_notify = {.name = "notify", .can_come = "0 1 2 3 4 5 6 7 8 9 10 11 12 13 14"};
+struct seen seen_kind = {.name = "notify: kind", .can_come = "0 1 2 3"};
+struct seen seen_nullify = {.name = "nullify", .can_come = "0 1 2 9 15"};
+struct seen seen_apply = {.name = "apply", .can_come = "0 1 2 3 4 5 6 7 8 9 10 11 12 13 14 15 19 20 21 22"};
+struct seen seen_apply_all = {.name = "apply_all", .can_come = "0 1"};
+struct seen seen_run_answer = {.name = "apply_all: its messages", .can_come = "0 2 3 4 5 6 7 8 9 10 11 12 13 14 15 19 20 21 22", .cannot = "1 (the run is refused as a whole)"};
+struct seen seen_total = {.name = "total", .can_come = "0 1 15 16", .cannot = "26 (256 slots of 99,999,999 come to 25,599,999,744)"};
+struct seen seen_day_totals = {.name = "day_totals", .can_come = "0 1 15 16 24", .cannot = "26 (as total)"};
+struct seen seen_figures = {.name = "figures", .can_come = "0 1 15 16"};
+struct seen seen_row_refusal = {.name = "row_refusal", .can_come = "0 1 16 25"};
+struct seen seen_day_marks = {.name = "day_marks", .can_come = "0 1 15 16 24 25"};
+struct seen seen_case = {.name = "day_marks: case", .can_come = "0 1 2 3"};
+
+void expect_numbers(void) {
+    struct seen *rows[] = {&seen_message_refusal, &seen_message_length, &seen_message_field, &seen_read_setup, &seen_open, &seen_is_sound,
+                           &seen_close_gate, &seen_notify, &seen_kind, &seen_nullify, &seen_apply, &seen_apply_all, &seen_run_answer, &seen_total,
+                           &seen_day_totals, &seen_figures, &seen_row_refusal, &seen_day_marks, &seen_case};
+    for (size_t k = 0; k < sizeof rows / sizeof rows[0]; k++) expect(rows[k]);
+}
+
+static const struct {
+    unsigned weight;
+    void (*try_it)(void);
+} table[] = {
+    {4, try_message_refusal},
+    {4, try_message_length},
+    {6, try_message_field},
+    {4, try_read_setup},
+    {1, try_open},
+    {6, try_is_sound},
+    {4, try_close_gate},
+    {16, try_notify},
+    {6, try_nullify},
+    {10, try_apply},
+    {5, try_apply_all},
+    {6, try_total},
+    {4, try_day_totals},
+    {4, try_figures},
+    {5, try_row_refusal},
+    {5, try_day_marks},
+    {1, law_totals_of_all_accounts_come_to_zero},
+    {1, law_two_accounts_see_negated_marks},
+    {2, law_apply_is_questions_and_a_call_by_struct},
+    {1, law_apply_all_is_apply_one_by_one},
+    {1, law_day_totals_are_the_totals},
+};
+
+enum { LINES = sizeof table / sizeof table[0] };
+
+void try_one(void) {
+    unsigned all = 0, line = 0;
+    for (unsigned k = 0; k < LINES; k++) all += table[k].weight;
+    for (unsigned left = below(all); left >= table[line].weight; line++) left -= table[line].weight;
+    table[line].try_it();
+}

@@ -1,0 +1,147 @@
+/* Each export with the faults that are tried on it; see faults.h. Compiled only into the program of `./fuzz faults`. */
+#define FAULTS_THEMSELVES
+#include "faults.h"
+
+#include <string.h>
+
+const char *fault = "none";
+
+const char *const fault_names[] = {
+    "padding_bit_is_ignored", "byte_past_the_message_is_read", "byte_before_the_message_is_read", "unreadable_message_has_a_length",
+    "entry_past_the_count_is_shown", "lent_length_of_side_two_is_not_tested", "refused_setup_is_shown", "opening_leaves_a_place",
+    "refused_opening_gives_the_setup", "one_gate_too_many_is_sound", "table_lent_to_read_is_written", "refused_gate_closes",
+    "refused_notification_changes_a_place", "refused_notification_takes_a_slot", "key_is_not_tested", "closed_places_are_rewritten",
+    "entry_past_the_count_refuses", "number_that_cannot_come", "call_never_returns", "refused_nullification_changes_a_place",
+    "nullification_leaves_side_two", "place_before_the_table_is_written", "unreadable_message_takes_a_byte", "refused_gate_message_closes",
+    "run_loses_its_last_answer", "answer_past_the_run_is_written", "account_two_is_taken_for_account_one", "refused_total_is_one",
+    "total_past_the_buffer_is_written", "day_of_50_loses_its_last_total", "net_is_the_difference_of_two_floats", "side_three_has_a_row",
+    "zero_is_negative_zero", "two_figures_in_the_other_order", "third_buffer_is_not_tested", NULL
+};
+
+static bool is(const char *name) { return strcmp(fault, name) == 0; }
+
+uint8_t faulty_message_refusal(const uint8_t *bytes, size_t length) {
+    volatile uint8_t looked_at = 0;
+    if (is("byte_past_the_message_is_read")) looked_at = bytes[length];
+    if (is("byte_before_the_message_is_read")) looked_at = *(bytes - 1);
+    (void)looked_at;
+    uint8_t answer = ghendufika_message_refusal(bytes, length);
+    return is("padding_bit_is_ignored") && answer == 22 ? 0 : answer;
+}
+
+size_t faulty_message_length(const uint8_t *bytes, size_t length) {
+    size_t taken = ghendufika_message_length(bytes, length);
+    return is("unreadable_message_has_a_length") && taken == 0 ? length : taken;
+}
+
+int64_t faulty_message_field(const uint8_t *bytes, size_t length, uint32_t field) {
+    int64_t count = ghendufika_message_field(bytes, length, GHENDUFIKA_FIELD_COUNT);
+    if (is("entry_past_the_count_is_shown") && count > 0 && field == GHENDUFIKA_FIELD_PERIOD((uint32_t)count)) field--;
+    return ghendufika_message_field(bytes, length, field);
+}
+
+ghendufika_setup_read faulty_read_setup(const uint8_t *bytes, size_t length, size_t slots, size_t lent1, size_t lent2) {
+    ghendufika_setup_read read = ghendufika_read_setup(bytes, length, slots, lent1, is("lent_length_of_side_two_is_not_tested") ? lent1 : lent2);
+    if (is("refused_setup_is_shown") && read.answer == 18) read.setup.rows[63].key = 1;
+    return read;
+}
+
+ghendufika_opened faulty_open(ghendufika_setup setup, uint32_t *held, size_t slots, int32_t *side1, size_t lent1, int32_t *side2, size_t lent2) {
+    ghendufika_opened opened = ghendufika_open(setup, held, slots, side1, lent1, side2, lent2);
+    if (is("opening_leaves_a_place") && opened.answer == 0) side2[lent2 - 1] = 0;
+    if (is("refused_opening_gives_the_setup") && opened.answer != 0) opened.book.setup = setup;
+    return opened;
+}
+
+bool faulty_is_sound(ghendufika_book book, const uint32_t *held, size_t slots, const int32_t *side1, size_t lent1, const int32_t *side2, size_t lent2) {
+    bool sound = ghendufika_is_sound(book, held, slots, side1, lent1, side2, lent2);
+    if (is("table_lent_to_read_is_written") && slots > 0) *(volatile uint32_t *)held = held[0];
+    if (is("one_gate_too_many_is_sound") && !sound && book.closed > 0) {
+        book.closed--;
+        sound = ghendufika_is_sound(book, held, slots, side1, lent1, side2, lent2);
+    }
+    return sound;
+}
+
+ghendufika_gated faulty_close_gate(ghendufika_book book, const uint32_t *held, size_t slots, const int32_t *side1, size_t lent1, const int32_t *side2, size_t lent2) {
+    ghendufika_gated gated = ghendufika_close_gate(book, held, slots, side1, lent1, side2, lent2);
+    if (is("refused_gate_closes") && gated.answer == 2) gated.book.closed++;
+    return gated;
+}
+
+ghendufika_notified faulty_notify(ghendufika_book book, ghendufika_notification notification, uint32_t *held, size_t slots, int32_t *side1, size_t lent1, int32_t *side2, size_t lent2) {
+    if (is("key_is_not_tested") && notification.authorisation < book.setup.authorisations && notification.authorisation < 64)
+        notification.key = book.setup.rows[notification.authorisation].key;
+    if (is("closed_places_are_rewritten") && book.closed == 1) book.closed = 0;
+    for (volatile unsigned turns = 0; is("call_never_returns") && notification.count == 3;) turns = turns + 1;
+    bool past = notification.count < 50 && notification.entries[notification.count].volume > 99999999;
+    ghendufika_notified notified = ghendufika_notify(book, notification, held, slots, side1, lent1, side2, lent2);
+    if (is("entry_past_the_count_refuses") && notified.answer == 14 && past) notified.answer = 11;
+    if (is("number_that_cannot_come") && notified.answer == 14) notified.answer = 15;
+    if (is("refused_notification_changes_a_place") && notified.answer == 13) side1[lent1 - 1] ^= 1;
+    if (is("refused_notification_takes_a_slot") && notified.answer == 12) held[slots - 1]++;
+    return notified;
+}
+
+uint8_t faulty_nullify(ghendufika_book book, ghendufika_nullification nullification, const uint32_t *held, size_t slots, int32_t *side1, size_t lent1, int32_t *side2, size_t lent2) {
+    static int32_t kept[300 * 8 * 50];
+    memcpy(kept, side2, lent2 * sizeof kept[0]);
+    uint8_t answer = ghendufika_nullify(book, nullification, held, slots, side1, lent1, side2, lent2);
+    if (is("nullification_leaves_side_two")) memcpy(side2, kept, lent2 * sizeof kept[0]);
+    if (is("refused_nullification_changes_a_place") && answer == 9) side2[0] = 0;
+    if (is("place_before_the_table_is_written")) *(side1 - 1) = 0;
+    return answer;
+}
+
+ghendufika_applied faulty_apply(ghendufika_book book, const uint8_t *bytes, size_t length, uint32_t *held, size_t slots, int32_t *side1, size_t lent1, int32_t *side2, size_t lent2) {
+    ghendufika_applied applied = ghendufika_apply(book, bytes, length, held, slots, side1, lent1, side2, lent2);
+    if (is("unreadable_message_takes_a_byte") && applied.answer == 22) applied.length = 1;
+    if (is("refused_gate_message_closes") && applied.answer == 2) applied.book.closed++;
+    return applied;
+}
+
+ghendufika_applied_all faulty_apply_all(ghendufika_book book, const uint8_t *bytes, size_t length, uint32_t *held, size_t slots, int32_t *side1, size_t lent1, int32_t *side2, size_t lent2, uint8_t *answers, size_t room) {
+    ghendufika_applied_all run = ghendufika_apply_all(book, bytes, length, held, slots, side1, lent1, side2, lent2, answers, room);
+    if (is("run_loses_its_last_answer") && run.done == 5) run.done--;
+    if (is("answer_past_the_run_is_written") && run.done < room) answers[run.done] ^= 1;
+    return run;
+}
+
+ghendufika_totalled faulty_total(ghendufika_book book, const uint32_t *held, size_t slots, const int32_t *side1, size_t lent1, const int32_t *side2, size_t lent2, uint8_t account, uint16_t day, uint8_t period) {
+    ghendufika_totalled totalled = ghendufika_total(book, held, slots, side1, lent1, side2, lent2, account, day, period);
+    if (is("account_two_is_taken_for_account_one") && totalled.kwh < 0) totalled.kwh = -totalled.kwh;
+    if (is("refused_total_is_one") && totalled.answer == 16) totalled.kwh = 1;
+    return totalled;
+}
+
+uint8_t faulty_day_totals(ghendufika_book book, const uint32_t *held, size_t slots, const int32_t *side1, size_t lent1, const int32_t *side2, size_t lent2, uint8_t account, uint16_t day, int64_t *kwh, size_t room) {
+    uint8_t answer = ghendufika_day_totals(book, held, slots, side1, lent1, side2, lent2, account, day, kwh, room);
+    if (is("total_past_the_buffer_is_written") && answer == 24) *(volatile int64_t *)(kwh + room) = 0;
+    if (is("day_of_50_loses_its_last_total") && answer == 0 && room >= 50 && book.setup.codes[(day - book.setup.first) & 7] == 2) kwh[49] = 0;
+    return answer;
+}
+
+ghendufika_figured faulty_figures(ghendufika_book book, const uint32_t *held, size_t slots, const int32_t *side1, size_t lent1, const int32_t *side2, size_t lent2, uint8_t account, uint16_t day) {
+    ghendufika_figured figured = ghendufika_figures(book, held, slots, side1, lent1, side2, lent2, account, day);
+    if (is("net_is_the_difference_of_two_floats")) figured.day.net = figured.day.sold - figured.day.bought;
+    return figured;
+}
+
+uint8_t faulty_row_refusal(ghendufika_book book, const uint32_t *held, size_t slots, const int32_t *side1, size_t lent1, const int32_t *side2, size_t lent2, uint8_t originator, uint16_t reference, uint16_t day, uint8_t side) {
+    if (is("side_three_has_a_row") && side == 3) side = 2;
+    return ghendufika_row_refusal(book, held, slots, side1, lent1, side2, lent2, originator, reference, day, side);
+}
+
+uint8_t faulty_day_marks(ghendufika_book book, const uint32_t *held, size_t slots, const int32_t *side1, size_t lent1, const int32_t *side2, size_t lent2, uint8_t originator, uint16_t reference, uint8_t account, uint16_t day, uint8_t *cases, size_t case_room, double *firsts, size_t first_room, double *seconds, size_t second_room) {
+    if (is("third_buffer_is_not_tested") && second_room == 49) second_room = 50;
+    uint8_t answer = ghendufika_day_marks(book, held, slots, side1, lent1, side2, lent2, originator, reference, account, day, cases, case_room, firsts, first_room, seconds, second_room);
+    for (unsigned p = 0; answer == 0 && p < 46; p++) {
+        double first = firsts[p];
+        if (is("zero_is_negative_zero") && cases[p] == 2 && first == 0.0) firsts[p] = -0.0;
+        if (is("two_figures_in_the_other_order") && cases[p] == 3) {
+            firsts[p] = seconds[p];
+            seconds[p] = first;
+        }
+    }
+    return answer;
+}

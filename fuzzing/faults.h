@@ -1,0 +1,46 @@
+/* Faults put before the exports on purpose, one at a time, to see that the harness catches them: `./fuzz faults`. */
+#ifndef FAULTS_H
+#define FAULTS_H
+
+#include "ghendufika.h"
+
+extern const char *fault; /* its name; "none" for none */
+extern const char *const fault_names[];
+
+uint8_t faulty_message_refusal(const uint8_t *bytes, size_t length);
+size_t faulty_message_length(const uint8_t *bytes, size_t length);
+int64_t faulty_message_field(const uint8_t *bytes, size_t length, uint32_t field);
+ghendufika_setup_read faulty_read_setup(const uint8_t *bytes, size_t length, size_t slots, size_t lent1, size_t lent2);
+ghendufika_opened faulty_open(ghendufika_setup setup, uint32_t *held, size_t slots, int32_t *side1, size_t lent1, int32_t *side2, size_t lent2);
+bool faulty_is_sound(ghendufika_book book, const uint32_t *held, size_t slots, const int32_t *side1, size_t lent1, const int32_t *side2, size_t lent2);
+ghendufika_gated faulty_close_gate(ghendufika_book book, const uint32_t *held, size_t slots, const int32_t *side1, size_t lent1, const int32_t *side2, size_t lent2);
+ghendufika_notified faulty_notify(ghendufika_book book, ghendufika_notification notification, uint32_t *held, size_t slots, int32_t *side1, size_t lent1, int32_t *side2, size_t lent2);
+uint8_t faulty_nullify(ghendufika_book book, ghendufika_nullification nullification, const uint32_t *held, size_t slots, int32_t *side1, size_t lent1, int32_t *side2, size_t lent2);
+ghendufika_applied faulty_apply(ghendufika_book book, const uint8_t *bytes, size_t length, uint32_t *held, size_t slots, int32_t *side1, size_t lent1, int32_t *side2, size_t lent2);
+ghendufika_applied_all faulty_apply_all(ghendufika_book book, const uint8_t *bytes, size_t length, uint32_t *held, size_t slots, int32_t *side1, size_t lent1, int32_t *side2, size_t lent2, uint8_t *answers, size_t room);
+ghendufika_totalled faulty_total(ghendufika_book book, const uint32_t *held, size_t slots, const int32_t *side1, size_t lent1, const int32_t *side2, size_t lent2, uint8_t account, uint16_t day, uint8_t period);
+uint8_t faulty_day_totals(ghendufika_book book, const uint32_t *held, size_t slots, const int32_t *side1, size_t lent1, const int32_t *side2, size_t lent2, uint8_t account, uint16_t day, int64_t *kwh, size_t room);
+ghendufika_figured faulty_figures(ghendufika_book book, const uint32_t *held, size_t slots, const int32_t *side1, size_t lent1, const int32_t *side2, size_t lent2, uint8_t account, uint16_t day);
+uint8_t faulty_row_refusal(ghendufika_book book, const uint32_t *held, size_t slots, const int32_t *side1, size_t lent1, const int32_t *side2, size_t lent2, uint8_t originator, uint16_t reference, uint16_t day, uint8_t side);
+uint8_t faulty_day_marks(ghendufika_book book, const uint32_t *held, size_t slots, const int32_t *side1, size_t lent1, const int32_t *side2, size_t lent2, uint8_t originator, uint16_t reference, uint8_t account, uint16_t day, uint8_t *cases, size_t case_room, double *firsts, size_t first_room, double *seconds, size_t second_room);
+
+#ifndef FAULTS_THEMSELVES
+#define ghendufika_message_refusal faulty_message_refusal
+#define ghendufika_message_length faulty_message_length
+#define ghendufika_message_field faulty_message_field
+#define ghendufika_read_setup faulty_read_setup
+#define ghendufika_open faulty_open
+#define ghendufika_is_sound faulty_is_sound
+#define ghendufika_close_gate faulty_close_gate
+#define ghendufika_notify faulty_notify
+#define ghendufika_nullify faulty_nullify
+#define ghendufika_apply faulty_apply
+#define ghendufika_apply_all faulty_apply_all
+#define ghendufika_total faulty_total
+#define ghendufika_day_totals faulty_day_totals
+#define ghendufika_figures faulty_figures
+#define ghendufika_row_refusal faulty_row_refusal
+#define ghendufika_day_marks faulty_day_marks
+#endif
+
+#endif

@@ -1,0 +1,74 @@
+/* A bounded, seeded attack on the C boundary: random and damaged bytes, tables and arguments to every export of include/ghendufika.h.
+ *   fuzz calls COUNT SEED       fuzz seconds COUNT SEED       fuzz episode NUMBER SEED: that one alone, every call in words
+ * It ends with 1 at the first thing that does not hold, or where a number that can come was not seen in a million calls or more. */
+#define _GNU_SOURCE /* clock_gettime */
+#include "chance.h"
+#include "exports.h"
+#include "lending.h"
+
+#include <stdlib.h>
+#include <string.h>
+#include <time.h>
+
+#ifdef WITH_FAULTS
+#include "faults.h"
+
+/* `fuzz faults`: their names. `fuzz calls COUNT SEED FAULT`: with that one. */
+static void print_faults(void) {
+    for (size_t k = 0; fault_names[k] != NULL; k++) puts(fault_names[k]);
+}
+#endif
+
+enum { MOST_STEPS = 300, CALLS_THAT_SEE_EVERY_NUMBER = 1000000 };
+
+static double seconds_now(void) {
+    struct timespec now;
+    clock_gettime(CLOCK_MONOTONIC, &now);
+    return (double)now.tv_sec + (double)now.tv_nsec / 1e9;
+}
+
+/* An episode is a book from its opening on. It depends on the seed and its number alone. */
+static void run_episode(void) {
+    chance_from(seed * UINT64_C(0x9e3779b97f4a7c15) + episode);
+    chance_from(chance());
+    model.slots = 0;
+    while (model.slots == 0) try_open();
+    for (unsigned steps = 1 + below(MOST_STEPS); steps > 0; steps--) try_one();
+}
+
+static int finish(double seconds) {
+    bool all = print_seen();
+    printf("seed %llu: %llu calls in %llu episodes and %.0f seconds, everything held\n", (unsigned long long)seed, (unsigned long long)calls,
+           (unsigned long long)episode, seconds);
+    if (all) return 0;
+    if (calls < CALLS_THAT_SEE_EVERY_NUMBER) return 0;
+    printf("a number that can come was never seen\n");
+    return 1;
+}
+
+int main(int argc, char **argv) {
+#ifdef WITH_FAULTS
+    if (argc == 2) return print_faults(), 0;
+    if (argc == 5) fault = argv[4];
+#endif
+    if (argc < 4) {
+        fprintf(stderr, "fuzz calls|seconds|episode NUMBER SEED\n");
+        return 2;
+    }
+    uint64_t number = strtoull(argv[2], NULL, 10);
+    seed = strtoull(argv[3], NULL, 10);
+    make_areas();
+    watch_for_faults();
+    expect_numbers();
+    double start = seconds_now();
+    if (strcmp(argv[1], "episode") == 0) {
+        episode = number;
+        in_words = true;
+        run_episode();
+    } else if (strcmp(argv[1], "seconds") == 0) {
+        for (; seconds_now() - start < (double)number; episode++) run_episode();
+    } else {
+        for (; calls < number; episode++) run_episode();
+    }
+    return in_words ? 0 : finish(seconds_now() - start);
+}
