@@ -159,6 +159,7 @@ static void stir_clock(struct tables *tables) {
     unsigned day = below(tables->book.setup.days + 1u), periods = periods_before_day(&tables->book.setup, tables->book.setup.days);
     int64_t closed = (int64_t)periods_before_day(&tables->book.setup, day) + ONE_OF(0, 0, -1, 1, 2, below(50));
     if (closed < 0) closed = 0;
+    if (closed >= periods && !one_in(8)) closed = below(periods); /* with every gate closed little can happen */
     tables->book.closed = (uint16_t)(closed > periods ? periods : closed);
 }
 

@@ -125,7 +125,7 @@ static void check_day_marks(unsigned periods) {
 
 /* Room for a day of marks: mostly enough, else one of the three too short by a little. */
 static void some_rooms(void) {
-    for (unsigned which = 0; which < 3; which++) asked.room[which] = (size_t)(one_in(12) ? between(0, 50) : between(50, 60));
+    for (unsigned which = 0; which < 3; which++) asked.room[which] = (size_t)(one_in(12) ? ONE_OF(0, 1, 45, 46, 47, 48, 49, 49) : between(50, 60));
 }
 
 void try_day_marks(void) {
