@@ -33,8 +33,8 @@ static void make_tables_for(const ghendufika_setup *setup) {
 
 /* "Opening closes no gate, holds no identifier and sets every place to the mark." */
 static bool is_empty_book(void) {
-    const uint32_t *held = (const uint32_t *)(const void *)lent.held.to_read;
-    const int32_t *side1 = (const int32_t *)(const void *)lent.side1.to_read, *side2 = (const int32_t *)(const void *)lent.side2.to_read;
+    const uint32_t *held = lent_held();
+    const int32_t *side1 = lent_side1(), *side2 = lent_side2();
     for (size_t slot = 0; slot < before.slots; slot++)
         if (held[slot] != 0) return false;
     for (size_t place = 0; place < before.lent1; place++)

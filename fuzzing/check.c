@@ -13,7 +13,7 @@ uint64_t seed, episode, calls;
 bool in_words;
 
 #ifdef WITH_FAULTS
-enum { SECONDS_FOR_A_CALL = 3 }; /* so that a call that never returns is soon caught */
+enum { SECONDS_FOR_A_CALL = 10 }; /* so that a call that never returns is soon caught */
 #else
 enum { SECONDS_FOR_A_CALL = 60 };
 #endif
@@ -84,7 +84,8 @@ void say_call(FILE *out) {
     if (parts & SAY_BYTES) say_bytes(out);
     if (parts & SAY_FIELD) fprintf(out, "  field %u\n", asked.field);
     if (parts & SAY_NOTIFICATION) say_notification(out);
-    if (parts & SAY_NULLIFICATION) fprintf(out, "  nullification: accounts %u and %u from day %u\n", asked.nullification.account, asked.nullification.other, asked.nullification.first);
+    if (parts & SAY_NULLIFICATION)
+        fprintf(out, "  nullification: accounts %u and %u from day %u\n", asked.nullification.account, asked.nullification.other, asked.nullification.first);
     if (parts & SAY_LENGTHS) fprintf(out, "  for %zu slots, %zu places of side 1, %zu of side 2\n", asked.slots, asked.lent1, asked.lent2);
     if (parts & SAY_IDENTIFIER) fprintf(out, "  identifier %u/%u\n", asked.originator, asked.reference);
     if (parts & SAY_ACCOUNT) fprintf(out, "  account %u\n", asked.account);

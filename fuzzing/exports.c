@@ -16,7 +16,8 @@ struct seen seen_kind = {.name = "notify: kind", .can_come = "0 1 2 3"};
 struct seen seen_nullify = {.name = "nullify", .can_come = "0 1 2 9 15"};
 struct seen seen_apply = {.name = "apply", .can_come = "0 1 2 3 4 5 6 7 8 9 10 11 12 13 14 15 19 20 21 22"};
 struct seen seen_apply_all = {.name = "apply_all", .can_come = "0 1"};
-struct seen seen_run_answer = {.name = "apply_all: its messages", .can_come = "0 2 3 4 5 6 7 8 9 10 11 12 13 14 15 19 20 21 22", .cannot = "1 (the run is refused as a whole)"};
+struct seen seen_run_answer = {.name = "apply_all: its messages", .can_come = "0 2 3 4 5 6 7 8 9 10 11 12 13 14 15 19 20 21 22",
+                               .cannot = "1 (the run is refused as a whole)"};
 struct seen seen_total = {.name = "total", .can_come = "0 1 15 16", .cannot = "26 (256 slots of 99,999,999 come to 25,599,999,744)"};
 struct seen seen_day_totals = {.name = "day_totals", .can_come = "0 1 15 16 24", .cannot = "26 (as total)"};
 struct seen seen_figures = {.name = "figures", .can_come = "0 1 15 16"};

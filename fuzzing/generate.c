@@ -57,14 +57,15 @@ static void spoil_row(const ghendufika_setup *setup, ghendufika_authorisation *r
     }
 }
 
+/* The counts may be spoilt already. */
 void spoil_setup(ghendufika_setup *setup) {
     switch (below(7)) {
     case 0: setup->days = (uint8_t)ONE_OF(0, 9, 15, 200, 255, setup->days + 1); break;
     case 1: setup->accounts = (uint8_t)ONE_OF(0, 1, 65, 127, 255, 2); break;
     case 2: setup->authorisations = (uint8_t)ONE_OF(0, 65, 127, 255); break;
-    case 3: setup->codes[below(setup->days)] = (uint8_t)ONE_OF(3, 4, 255); break;
+    case 3: setup->codes[below(setup->days) % MOST_DAYS] = (uint8_t)ONE_OF(3, 4, 255); break;
     case 4: setup->first = (uint16_t)ONE_OF(LATEST_DAY + 2 - setup->days, LATEST_DAY + 1 - setup->days, 65535, 65534); break;
-    default: spoil_row(setup, &setup->rows[below(setup->authorisations)]); break;
+    default: spoil_row(setup, &setup->rows[below(setup->authorisations) % MOST_ROWS]); break;
     }
 }
 
@@ -120,7 +121,8 @@ static void spoil_places(struct tables *tables) {
 }
 
 static size_t wrong_length(size_t length) {
-    return (size_t)ONE_OF(0, 1, (int64_t)length + 1, length == 0 ? 1 : (int64_t)length - 1, (int64_t)length + 50, length < 50 ? 0 : (int64_t)length - 50, (int64_t)length * 2, below(300));
+    int64_t near = (int64_t)length + ONE_OF(1, -1, GHENDUFIKA_PLACES_A_DAY, -GHENDUFIKA_PLACES_A_DAY, length);
+    return (size_t)ONE_OF(0, 1, below(300), near < 0 ? 0 : near, near < 0 ? 0 : near);
 }
 
 static void spoil_lengths(struct tables *tables) {

@@ -36,6 +36,10 @@ void lend_model(void) {
     tell(&before);
 }
 
+const uint32_t *lent_held(void) { return (const uint32_t *)(const void *)lent.held.to_read; }
+const int32_t *lent_side1(void) { return (const int32_t *)(const void *)lent.side1.to_read; }
+const int32_t *lent_side2(void) { return (const int32_t *)(const void *)lent.side2.to_read; }
+
 bool tables_as_before(void) {
     return memcmp(lent.held.to_change, before.held, lent.held.length) == 0 && memcmp(lent.side1.to_change, before.side1, lent.side1.length) == 0
         && memcmp(lent.side2.to_change, before.side2, lent.side2.length) == 0;
@@ -46,7 +50,7 @@ bool nothing_beside_tables(void) { return nothing_written_beside(&lent.held) && 
 void check_tables(unsigned answer) {
     must(nothing_beside_tables(), "nothing is written beside the lent tables");
     if (answer != 0) must(tables_as_before(), "a refusal leaves the tables as they were");
-    else must(holds_as_second((const uint32_t *)(const void *)lent.held.to_read, (const int32_t *)(const void *)lent.side1.to_read, (const int32_t *)(const void *)lent.side2.to_read), "the tables end as the second program's");
+    else must(holds_as_second(lent_held(), lent_side1(), lent_side2()), "the tables end as the second program's");
 }
 
 static bool same_closed_places(const struct lent *side, const int32_t *side_before) {

@@ -10,11 +10,16 @@ extern struct lent_tables lent;
 
 void make_areas(void);
 
+/* The lent tables, read-only. */
+const uint32_t *lent_held(void);
+const int32_t *lent_side1(void);
+const int32_t *lent_side2(void);
+
 /* The tables as an export takes them: to change, to read, and as nullifications take them. */
 #define HELD_TO_CHANGE (uint32_t *)(void *)lent.held.to_change, before.slots
-#define HELD_TO_READ (const uint32_t *)(const void *)lent.held.to_read, before.slots
+#define HELD_TO_READ lent_held(), before.slots
 #define SIDES_TO_CHANGE (int32_t *)(void *)lent.side1.to_change, before.lent1, (int32_t *)(void *)lent.side2.to_change, before.lent2
-#define SIDES_TO_READ (const int32_t *)(const void *)lent.side1.to_read, before.lent1, (const int32_t *)(const void *)lent.side2.to_read, before.lent2
+#define SIDES_TO_READ lent_side1(), before.lent1, lent_side2(), before.lent2
 #define TABLES_TO_CHANGE HELD_TO_CHANGE, SIDES_TO_CHANGE
 #define TABLES_TO_READ HELD_TO_READ, SIDES_TO_READ
 

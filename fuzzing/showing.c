@@ -30,8 +30,8 @@ static void ask_about_identifier(void) {
 
 /* "Totals count matched volumes only, plus for account 1, minus for account 2", from the lent tables themselves. */
 static int64_t sum_of_matched(void) {
-    const uint32_t *held = (const uint32_t *)(const void *)lent.held.to_read;
-    const int32_t *side1 = (const int32_t *)(const void *)lent.side1.to_read, *side2 = (const int32_t *)(const void *)lent.side2.to_read;
+    const uint32_t *held = lent_held();
+    const int32_t *side1 = lent_side1(), *side2 = lent_side2();
     int64_t sum = 0;
     for (size_t slot = 0; slot < before.slots; slot++) {
         size_t day = (size_t)asked.day - before.book.setup.first;
@@ -141,7 +141,8 @@ void try_day_marks(void) {
     uint8_t answer = ghendufika_day_marks(before.book, TABLES_TO_READ, asked.originator, asked.reference, asked.account, asked.day, cases, asked.room[0],
                                           firsts, asked.room[1], seconds, asked.room[2]);
     note(&seen_day_marks, answer);
-    must(answer == (expected == DONE && short_of_room ? 24 : (unsigned)expected), "the answer to a day of marks is the second program's, and then 24 where there is no room");
+    must(answer == (expected == DONE && short_of_room ? 24 : (unsigned)expected),
+         "the answer to a day of marks is the second program's, and then 24 where there is no room");
     check_buffer(0, answer == DONE ? periods : 0);
     check_buffer(1, answer == DONE ? periods * sizeof(double) : 0);
     check_buffer(2, answer == DONE ? periods * sizeof(double) : 0);
