@@ -103,9 +103,9 @@ static void some_lengths(size_t days) {
 
 /* "Setup order: under 5 bytes 19, wrong counts, last day above 65,534 or lent lengths 17": the second program knows nothing of lent lengths, and
  * where they are wrong nothing but 19 for the first 5 bytes comes before them. The days are bits 16 to 19. */
-static enum answer setup_expected(struct setup *setup, size_t *used) {
-    enum answer answer = read_setup(made, asked.length, setup, used);
-    if (asked.length >= 5 && !lengths_fit(asked.slots, made[2] >> 4, asked.lent1, asked.lent2)) {
+enum answer setup_expected(const uint8_t *bytes, struct setup *setup, size_t *used) {
+    enum answer answer = read_setup(bytes, asked.length, setup, used);
+    if (asked.length >= 5 && !lengths_fit(asked.slots, bytes[2] >> 4, asked.lent1, asked.lent2)) {
         *used = 0;
         return SETUP_WRONG;
     }
@@ -117,7 +117,7 @@ void try_read_setup(void) {
     size_t used;
     lend_bytes(made, some_setup_bytes(made));
     some_lengths(asked.length > 2 ? made[2] >> 4 : 1);
-    enum answer expected = setup_expected(&setup, &used);
+    enum answer expected = setup_expected(made, &setup, &used);
     ask("ghendufika_read_setup", SAY_BYTES | SAY_LENGTHS);
     ghendufika_setup_read read = ghendufika_read_setup(asked.bytes, asked.length, asked.slots, asked.lent1, asked.lent2);
     note(&seen_read_setup, read.answer);

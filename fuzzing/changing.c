@@ -15,8 +15,7 @@ static const ghendufika_book no_book;
 
 /* ---- opening */
 
-/* Tables for a setup, with anything in them; sometimes of wrong lengths. */
-static void make_tables_for(const ghendufika_setup *setup) {
+void make_tables_for(const ghendufika_setup *setup) {
     size_t slots = slots_for_a_book(setup->days), places = slots * setup->days * GHENDUFIKA_PLACES_A_DAY;
     before.book = no_book;
     before.slots = before.lent1 = before.lent2 = 0;

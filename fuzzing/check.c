@@ -83,6 +83,7 @@ void say_call(FILE *out) {
     if (parts & SAY_TABLES) say_tables(out);
     if (parts & SAY_BYTES) say_bytes(out);
     if (parts & SAY_FIELD) fprintf(out, "  field %u\n", asked.field);
+    if (parts & SAY_KIND) fprintf(out, "  message kind %u\n", asked.kind);
     if (parts & SAY_NOTIFICATION) say_notification(out);
     if (parts & SAY_NULLIFICATION)
         fprintf(out, "  nullification: accounts %u and %u from day %u\n", asked.nullification.account, asked.nullification.other, asked.nullification.first);

@@ -9,7 +9,7 @@
 
 enum said {
     SAY_BYTES = 1, SAY_FIELD = 2, SAY_TABLES = 4, SAY_NOTIFICATION = 8, SAY_NULLIFICATION = 16, SAY_ACCOUNT = 32,
-    SAY_DAY = 64, SAY_PERIOD = 128, SAY_IDENTIFIER = 256, SAY_SIDE = 512, SAY_ROOM = 1024, SAY_LENGTHS = 2048, SAY_SETUP = 4096
+    SAY_DAY = 64, SAY_PERIOD = 128, SAY_IDENTIFIER = 256, SAY_SIDE = 512, SAY_ROOM = 1024, SAY_LENGTHS = 2048, SAY_SETUP = 4096, SAY_KIND = 8192
 };
 
 /* The arguments of the call; `parts` says which of them it has. Its tables are `before`. */
@@ -22,7 +22,7 @@ struct asked {
     ghendufika_setup setup;
     ghendufika_notification notification;
     ghendufika_nullification nullification;
-    uint8_t account, period, originator, side;
+    uint8_t kind, account, period, originator, side;
     uint16_t day, reference;
     size_t room[3];
     size_t slots, lent1, lent2;

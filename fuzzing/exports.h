@@ -27,6 +27,14 @@ void try_figures(void);
 void try_row_refusal(void);
 void try_day_marks(void);
 
+/* packing_exports.c and showing.c: where the header has them */
+void try_read_message(void);
+void try_write_message(void);
+void try_write_setup(void);
+void try_open_packed(void);
+void try_mark(void);
+void try_row(void);
+
 /* laws.c */
 void law_totals_of_all_accounts_come_to_zero(void);
 void law_two_accounts_see_negated_marks(void);

@@ -15,7 +15,13 @@ const char *const fault_names[] = {
     "nullification_leaves_side_two", "place_before_the_table_is_written", "unreadable_message_takes_a_byte", "refused_gate_message_closes",
     "run_loses_its_last_answer", "answer_past_the_run_is_written", "account_two_is_taken_for_account_one", "refused_total_is_one",
     "total_past_the_buffer_is_written", "day_of_50_loses_its_last_total", "net_is_the_difference_of_two_floats", "side_three_has_a_row",
-    "zero_is_negative_zero", "two_figures_in_the_other_order", "third_buffer_is_not_tested", NULL
+    "zero_is_negative_zero", "two_figures_in_the_other_order", "third_buffer_is_not_tested",
+#ifdef GHENDUFIKA_MOST_MESSAGE_BYTES
+    "entry_past_the_count_is_read", "byte_behind_a_written_message_is_changed", "refused_writing_changes_the_buffer", "period_64_is_written",
+    "setup_is_written_with_padding_of_ones", "refused_packed_opening_takes_a_slot", "mark_is_shown_as_account_ones", "refused_mark_is_one_side",
+    "row_starts_a_place_late", "refused_row_has_a_length",
+#endif
+    NULL
 };
 
 static bool is(const char *name) { return strcmp(fault, name) == 0; }
@@ -145,3 +151,48 @@ uint8_t faulty_day_marks(ghendufika_book book, const uint32_t *held, size_t slot
     }
     return answer;
 }
+
+#ifdef GHENDUFIKA_MOST_MESSAGE_BYTES /* the header of the whole book */
+
+ghendufika_message_read faulty_read_message(const uint8_t *bytes, size_t length) {
+    ghendufika_message_read read = ghendufika_read_message(bytes, length);
+    if (is("entry_past_the_count_is_read") && read.message.kind == 1 && read.message.notification.count < 50) read.message.notification.entries[49].period = 1;
+    return read;
+}
+
+ghendufika_message_written faulty_write_message(ghendufika_message message, uint8_t *out, size_t room) {
+    if (is("period_64_is_written") && message.notification.entries[0].period == 64) message.notification.entries[0].period = 0;
+    ghendufika_message_written written = ghendufika_write_message(message, out, room);
+    if (is("byte_behind_a_written_message_is_changed") && written.answer == 0 && written.length < room) out[written.length] ^= 1;
+    if (is("refused_writing_changes_the_buffer") && written.answer == 24 && room > 0) out[room - 1] ^= 1;
+    return written;
+}
+
+ghendufika_setup_written faulty_write_setup(ghendufika_setup setup, uint8_t *out, size_t room) {
+    ghendufika_setup_written written = ghendufika_write_setup(setup, out, room);
+    unsigned bits = 34u + 2u * setup.days + 78u * setup.authorisations;
+    if (is("setup_is_written_with_padding_of_ones") && written.answer == 0 && bits % 8 != 0) out[written.length - 1] |= 1;
+    return written;
+}
+
+ghendufika_opened_packed faulty_open_packed(const uint8_t *bytes, size_t length, uint32_t *held, size_t slots, int32_t *side1, size_t lent1, int32_t *side2, size_t lent2) {
+    ghendufika_opened_packed opened = ghendufika_open_packed(bytes, length, held, slots, side1, lent1, side2, lent2);
+    if (is("refused_packed_opening_takes_a_slot") && opened.answer == 22) held[0] ^= 1;
+    return opened;
+}
+
+ghendufika_marked faulty_mark(ghendufika_book book, const uint32_t *held, size_t slots, const int32_t *side1, size_t lent1, const int32_t *side2, size_t lent2, uint8_t originator, uint16_t reference, uint8_t account, uint16_t day, uint8_t period) {
+    ghendufika_marked marked = ghendufika_mark(book, held, slots, side1, lent1, side2, lent2, originator, reference, account, day, period);
+    if (is("mark_is_shown_as_account_ones") && originator < 64 && book.setup.rows[originator].account2 == account && marked.first != 0.0) marked.first = -marked.first;
+    if (is("refused_mark_is_one_side") && marked.answer == 16) marked.bar = 1;
+    return marked;
+}
+
+ghendufika_row_place faulty_row(ghendufika_book book, const uint32_t *held, size_t slots, const int32_t *side1, size_t lent1, const int32_t *side2, size_t lent2, uint8_t originator, uint16_t reference, uint16_t day, uint8_t side) {
+    ghendufika_row_place place = ghendufika_row(book, held, slots, side1, lent1, side2, lent2, originator, reference, day, side);
+    if (is("row_starts_a_place_late") && place.answer == 0) place.start++;
+    if (is("refused_row_has_a_length") && place.answer == 16) place.length = 48;
+    return place;
+}
+
+#endif

@@ -14,8 +14,9 @@
 #include "faults.h"
 
 /* `fuzz faults`: their names. `fuzz calls COUNT SEED FAULT`: with that one. */
-static void print_faults(void) {
+static int print_faults(void) {
     for (size_t k = 0; fault_names[k] != NULL; k++) puts(fault_names[k]);
+    return 0;
 }
 #endif
 
@@ -48,7 +49,7 @@ static int finish(double seconds) {
 
 int main(int argc, char **argv) {
 #ifdef WITH_FAULTS
-    if (argc == 2) return print_faults(), 0;
+    if (argc == 2) return print_faults();
     if (argc == 5) fault = argv[4];
 #endif
     if (argc < 4) {

@@ -25,6 +25,8 @@ const int32_t *lent_side2(void);
 
 /* Lends the model, now and then spoilt: `before` is what is lent, and the second program is told it. */
 void lend_model(void);
+/* Tables for a setup of so many days, with anything in them, lent; sometimes of wrong lengths. */
+void make_tables_for(const ghendufika_setup *setup);
 /* Lends `before` as it stands. */
 void lend_before(void);
 

@@ -19,6 +19,9 @@ struct notification told_notification(const ghendufika_notification *notificatio
 struct nullification told_nullification(const ghendufika_nullification *nullification);
 ghendufika_setup setup_of_second(const struct setup *setup);
 
+/* What reading a packed setup for the lengths in `asked` should answer; 0 bytes used with a refusal. */
+enum answer setup_expected(const uint8_t *bytes, struct setup *setup, size_t *used);
+
 bool lengths_fit(size_t slots, size_t days, size_t lent1, size_t lent2);
 
 #endif

@@ -148,3 +148,43 @@ void try_day_marks(void) {
     check_buffer(2, answer == DONE ? periods * sizeof(double) : 0);
     if (answer == DONE) check_day_marks(periods);
 }
+
+#ifdef GHENDUFIKA_MOST_MESSAGE_BYTES /* the header of the whole book */
+
+void try_mark(void) {
+    struct mark mark;
+    ask_about_identifier();
+    enum answer expected = ask_mark(&second, asked.originator, asked.reference, asked.account, asked.day, asked.period, &mark);
+    ask("ghendufika_mark", SAY_TABLES | SAY_IDENTIFIER | SAY_ACCOUNT | SAY_DAY | SAY_PERIOD);
+    ghendufika_marked marked = ghendufika_mark(before.book, TABLES_TO_READ, asked.originator, asked.reference, asked.account, asked.day, asked.period);
+    note(&seen_mark, marked.answer);
+    note(&seen_case, marked.bar);
+    must(marked.answer == expected, "the answer to a mark is the second program's");
+    must(marked.bar == mark.mark_case, "a mark is Blank, OneSide, Agreed or Disagreed as the second program's, and Blank with a refusal");
+    must(same_bits(marked.first, mark.first) && same_bits(marked.second, mark.second),
+         "the figures of a mark are the second program's, bit by bit, and positive zero with a refusal");
+}
+
+/* The row is a part of the side's own table: the slot's and the day's. The second program's row lies in its own table of another size. */
+static void check_row_place(const ghendufika_row_place *place, const struct row *row) {
+    const int32_t *side = asked.side == 1 ? lent_side1() : lent_side2();
+    size_t slot = 0, day = (size_t)asked.day - before.book.setup.first;
+    while (lent_held()[slot] != 1u + asked.originator * 65536u + asked.reference) slot++;
+    must(place->start == (slot * before.book.setup.days + day) * GHENDUFIKA_PLACES_A_DAY, "a row starts at its slot's day");
+    must(place->length == row->length, "a row is as long as its day");
+    must(memcmp(side + place->start, row->volume, row->length * sizeof side[0]) == 0, "a row holds what the second program's holds");
+}
+
+void try_row(void) {
+    struct row row;
+    ask_about_identifier();
+    enum answer expected = ask_row(&second, asked.originator, asked.reference, asked.side, asked.day, &row);
+    ask("ghendufika_row", SAY_TABLES | SAY_IDENTIFIER | SAY_DAY | SAY_SIDE);
+    ghendufika_row_place place = ghendufika_row(before.book, TABLES_TO_READ, asked.originator, asked.reference, asked.day, asked.side);
+    note(&seen_row, place.answer);
+    must(place.answer == expected, "the answer to a row is the second program's");
+    if (expected == DONE) check_row_place(&place, &row);
+    else must(place.start == 0 && place.length == 0, "a refused row is empty");
+}
+
+#endif
