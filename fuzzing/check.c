@@ -100,8 +100,9 @@ _Noreturn void fail(const char *promise) {
     fflush(stdout);
     fprintf(stderr, "fuzz: this does not hold: %s\n", promise);
     say_call(stderr);
-    fprintf(stderr, "again: ./fuzz %llu %llu, or this episode alone, every call in words: ./fuzz episode %llu %llu\n", (unsigned long long)calls,
-            (unsigned long long)seed, (unsigned long long)episode, (unsigned long long)seed);
+    if (!in_words) /* in an episode alone the calls are counted from its beginning */
+        fprintf(stderr, "again: ./fuzz %llu %llu, or this episode alone, every call in words: ./fuzz episode %llu %llu\n", (unsigned long long)calls,
+                (unsigned long long)seed, (unsigned long long)episode, (unsigned long long)seed);
     exit(1);
 }
 
