@@ -12,8 +12,10 @@ use Rattle.meaning.specs.Rows.{rowRules, row}
 use Rattle.book.specs.declared.Book.{Book}
 use Rattle.book.specs.Structs.{bookOf}
 use Rattle.bars.specs.Marks.{caseOf, firstOf, secondOf, marked, dayMarkRules, dayMarked}
+use Rattle.bars.specs.Rows.{rowPlace}
 use Rattle.bars.specs.declared.Bar.{Bar}
 use Rattle.bars.specs.declared.Marked.{Marked}
+use Rattle.bars.specs.declared.RowPlace.{RowPlace}
 
 -- ---- rows
 
@@ -29,6 +31,12 @@ pub unique-row : (b : Book) (held : List ℕ) (side1 side2 : List ℤ) (originat
     → r′ ≡ row (bookOf b held side1 side2) (identifierOf originator reference) day side
     → r ≡ r′
 unique-row b held side1 side2 originator reference day side r r′ p q = one-outcome p q
+
+pub unique-row-place : (b : Book) (held : List ℕ) (side1 side2 : List ℤ) (originator reference day side : ℕ) (r r′ : RowPlace)
+    → r ≡ rowPlace (bookOf b held side1 side2) (identifierOf originator reference) day side
+    → r′ ≡ rowPlace (bookOf b held side1 side2) (identifierOf originator reference) day side
+    → r ≡ r′
+unique-row-place b held side1 side2 originator reference day side r r′ p q = one-outcome p q
 
 -- ---- marks
 

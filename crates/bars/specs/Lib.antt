@@ -1,2 +1,3 @@
--- What the questions of `position` answer, in the words of document 01's "Matching, totals, marks".
+-- What the questions of `bars` answer, in the words of document 01's "Matching, totals, marks".
 pub mod Marks
+pub mod Rows

@@ -17,3 +17,11 @@ pub struct Marked {
     pub answer: u8,
     pub bar: Bar,
 }
+
+// Where the day's row lies in its side's table; with a refusal both numbers are 0.
+#[repr(C)]
+pub struct RowPlace {
+    pub answer: u8,
+    pub start: usize,
+    pub length: usize,
+}

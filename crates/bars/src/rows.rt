@@ -1,15 +1,18 @@
 // "The day's row is shown as a part of side 1's or side 2's own table, the day's length long; it is empty exactly on a refusal, whose number is
 // asked apart."
+use crate::RowPlace;
 use book::numbers;
 use book::state;
-ghost use mathlib.Core.Bool.{true};
+ghost use mathlib.Core.Bool.{not, true};
 ghost use mathlib.Core.Path.{_≡_};
 ghost use Prim.Native.Nat.{_≤_, _<_};
+ghost use Rattle.words.specs.Tests.{_=?_};
 ghost use Rattle.words.specs.Rules.{answer};
 ghost use Rattle.meaning.specs.Time.{periodsAt, days, dayOf, hasDay};
 ghost use Rattle.meaning.specs.Ledgers.{index, identifierOf, slotOf};
 ghost use Rattle.meaning.specs.Rows.{rowRules, row};
 ghost use Rattle.book.specs.Structs.{timeIn, bookOf};
+ghost use Rattle.bars.specs.Rows.{rowPlace, tableOf, partAt};
 
 // The slot that holds an identifier; the number of slots where none does.
 pub(crate) fn slot_of(held: &[u32], originator: u8, reference: u16) -> usize
@@ -96,4 +99,38 @@ pub fn row<'a>(
         return &side1[start..end];
     }
     &side2[start..end]
+}
+
+// Where that part lies, for a caller that cannot be handed a part of its own table: its start there, its length, and the refusal's number.
+pub fn row_place(
+    b: book::Book,
+    held: &[u32],
+    side1: &[i32],
+    side2: &[i32],
+    originator: u8,
+    reference: u16,
+    day: u16,
+    side: u8,
+) -> RowPlace
+    ensures { λ r. do
+      let before = bookOf b (now (held .entry)) (now (side1 .entry)) (now (side2 .entry))
+      let i = identifierOf originator reference
+      ⌜ (r ≡ rowPlace before i day side) × (partAt r (tableOf (now (side1 .entry)) (now (side2 .entry)) side) ≡ row before i day side) × ((r .length =? 0) ≡ not (r .answer =? 0)) ⌝ }
+{
+    let answer = row_refusal(b, held, side1, side2, originator, reference, day, side);
+    if answer != 0 {
+        return RowPlace {
+            answer: answer,
+            start: 0,
+            length: 0,
+        };
+    }
+    let slot = slot_of(held, originator, reference);
+    let start = index_of(b, slot, day, 1);
+    let length = periods_on(b, day) as usize;
+    RowPlace {
+        answer: 0,
+        start: start,
+        length: length,
+    }
 }
