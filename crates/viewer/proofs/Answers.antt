@@ -1,7 +1,13 @@
--- What reading gives, part by part: the answer, the length and the message of a `MessageRead`.
-use mathlib.Core.Path.{_≡_, refl}
+-- What reading gives, part by part: the answer, the length and the message of a `MessageRead`; and a mark as its numbers.
+use mathlib.Core.Path.{_≡_, refl, ap, _∙_}
+use Prim.Native.Nat.{ℕ}
+use lib.Ieee.{Float}
 use Rattle.meaning.specs.PackedMessages.{Packed, Reading}
 use Rattle.messages.specs.Structs.{messageFor, messageRead}
+use Rattle.bars.specs.Marks.{caseOf, firstOf, secondOf}
+use Rattle.bars.specs.declared.Marked.{Marked}
+use Rattle.viewer.specs.Numbers.{markNumbers}
+use Rattle.viewer.specs.declared.MarkNumbers.{MarkNumbers}
 
 module _ (r : Reading Packed) where
   pub answer-read : messageRead r .answer ≡ r .answer
@@ -15,3 +21,10 @@ module _ (r : Reading Packed) where
   pub message-read : messageRead r .message ≡ messageFor (r .read)
   unfolding messageRead
   message-read = refl
+
+-- the number and the two figures of a mark's bar
+pub numbers-of : (m x : Marked) {number : ℕ} {first second : Float}
+    → m ≡ x → number ≡ caseOf (m .bar) → first ≡ firstOf (m .bar) → second ≡ secondOf (m .bar)
+    → _≡_ {A = MarkNumbers} (record { answer = m .answer; bar = number; first = first; second = second }) (markNumbers x)
+unfolding markNumbers
+numbers-of m x e n f s = rw (n, f, s) (ap markNumbers e)

@@ -1,12 +1,33 @@
--- What is promised of the viewer's questions leaves no choice: two answers that both keep the promise are the same.
+-- What is promised of the viewer's questions leaves no choice: two answers that both keep the promise are the same. The exports of books.rt have the
+-- promises of the functions that they call, word for word, and their uniqueness stands with those.
 use mathlib.Core.List.{List}
 use mathlib.Core.Path.{_≡_}
 use Prim.Native.Nat.{ℕ}
 use lib.IntN.{ℤ}
 use Rattle.words.specs.Rules.{answer}
 use Rattle.laws.proofs.Cases.{one-outcome}
-use Rattle.meaning.specs.PackedMessages.{readingRules, readMessage}
+use Rattle.meaning.specs.Ledgers.{identifierOf}
+use Rattle.meaning.specs.PackedMessages.{readingRules, readMessage, writeMessage}
+use Rattle.meaning.specs.PackedSetups.{writeSetup}
+use Rattle.messages.specs.Structs.{messageOf, messageRead, messageWritten}
+use Rattle.messages.specs.declared.Message.{Message}
+use Rattle.messages.specs.declared.MessageRead.{MessageRead}
+use Rattle.messages.specs.declared.MessageWritten.{MessageWritten}
+use Rattle.setups.specs.Structs.{setupOf, setupWritten}
+use Rattle.setups.specs.declared.Setup.{Setup}
+use Rattle.setups.specs.declared.SetupWritten.{SetupWritten}
+use Rattle.book.specs.Structs.{bookOf}
+use Rattle.book.specs.declared.Book.{Book}
+use Rattle.bars.specs.Marks.{marked}
+use Rattle.bars.specs.declared.RowPlace.{RowPlace}
+use Rattle.bars.proofs.PlaceLaws.{Placed}
 use Rattle.viewer.specs.Questions.{fieldIn}
+use Rattle.viewer.specs.Numbers.{markNumbers}
+use Rattle.viewer.specs.declared.MarkNumbers.{MarkNumbers}
+use Rattle.viewer.specs.declared.OpenedPacked.{OpenedPacked}
+use Rattle.viewer.proofs.OpeningLaws.{OpensPacked}
+
+-- ---- about message bytes
 
 pub unique-message-refusal : (bytes : List ℕ) (r r′ : ℕ) → r ≡ answer (readingRules bytes) → r′ ≡ answer (readingRules bytes) → r ≡ r′
 unique-message-refusal bytes r r′ = one-outcome
@@ -16,3 +37,40 @@ unique-message-length bytes r r′ = one-outcome
 
 pub unique-message-field : (bytes : List ℕ) (field : ℕ) (r r′ : ℤ) → r ≡ fieldIn (readMessage bytes .read) field → r′ ≡ fieldIn (readMessage bytes .read) field → r ≡ r′
 unique-message-field bytes field r r′ = one-outcome
+
+-- ---- packed bytes, each buffer left included
+
+pub unique-read-message : (bytes : List ℕ) (r r′ : MessageRead) → r ≡ messageRead (readMessage bytes) → r′ ≡ messageRead (readMessage bytes) → r ≡ r′
+unique-read-message bytes r r′ = one-outcome
+
+abbrev pub WritesMessage : Message → List ℕ → MessageWritten → List ℕ → Type 0
+WritesMessage m out r left = (r ≡ messageWritten (writeMessage (messageOf m) out)) × (left ≡ writeMessage (messageOf m) out .out)
+
+pub unique-write-message : (m : Message) (out : List ℕ) (r r′ : MessageWritten) (left left′ : List ℕ)
+    → WritesMessage m out r left → WritesMessage m out r′ left′ → (r ≡ r′) × (left ≡ left′)
+unique-write-message m out r r′ left left′ p q = (one-outcome (p .0) (q .0), one-outcome (p .1) (q .1))
+
+abbrev pub WritesSetup : Setup → List ℕ → SetupWritten → List ℕ → Type 0
+WritesSetup s out r left = (r ≡ setupWritten (writeSetup (setupOf s) out)) × (left ≡ writeSetup (setupOf s) out .out)
+
+pub unique-write-setup : (s : Setup) (out : List ℕ) (r r′ : SetupWritten) (left left′ : List ℕ)
+    → WritesSetup s out r left → WritesSetup s out r′ left′ → (r ≡ r′) × (left ≡ left′)
+unique-write-setup s out r r′ left left′ p q = (one-outcome (p .0) (q .0), one-outcome (p .1) (q .1))
+
+pub unique-open-packed : (bytes held : List ℕ) (side1 side2 : List ℤ) (r r′ : OpenedPacked) (h h′ : List ℕ) (l1 l1′ l2 l2′ : List ℤ)
+    → OpensPacked bytes held side1 side2 r h l1 l2 → OpensPacked bytes held side1 side2 r′ h′ l1′ l2′ → (r ≡ r′) × (h ≡ h′) × (l1 ≡ l1′) × (l2 ≡ l2′)
+unique-open-packed bytes held side1 side2 r r′ h h′ l1 l1′ l2 l2′ p q =
+    (one-outcome (p .0) (q .0), one-outcome (p .1) (q .1), one-outcome (p .2) (q .2), one-outcome (p .3) (q .3))
+
+-- ---- what is shown of an identifier
+
+pub unique-mark : (b : Book) (held : List ℕ) (side1 side2 : List ℤ) (originator reference account day period : ℕ) (r r′ : MarkNumbers)
+    → r ≡ markNumbers (marked (bookOf b held side1 side2) (identifierOf originator reference) account day period)
+    → r′ ≡ markNumbers (marked (bookOf b held side1 side2) (identifierOf originator reference) account day period)
+    → r ≡ r′
+unique-mark b held side1 side2 originator reference account day period r r′ = one-outcome
+
+-- where a row lies; of `rows::row` only what it holds is promised, here its place is too
+pub unique-row : (b : Book) (held : List ℕ) (side1 side2 : List ℤ) (originator reference day side : ℕ) (r r′ : RowPlace)
+    → Placed b held side1 side2 (identifierOf originator reference) day side r → Placed b held side1 side2 (identifierOf originator reference) day side r′ → r ≡ r′
+unique-row b held side1 side2 originator reference day side r r′ p q = one-outcome (p .0) (q .0)

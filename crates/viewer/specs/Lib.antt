@@ -1,2 +1,4 @@
 -- What the C viewer's questions mean.
 pub mod Questions
+pub mod Opening
+pub mod Numbers

@@ -1,11 +1,31 @@
 // What the C viewer asks about message bytes (document 01, "Packed messages"): refusal, length and any one field, each asked apart.
 // include/ghendufika.h declares these functions and names the fields.
 pub mod books; // books.rt: a book from C
+pub mod packing; // packing.rt: messages, setups and books out of packed bytes, and into them
+pub mod shown; // shown.rt: one mark, and where a row lies
 
 ghost use mathlib.Core.Path.{_≡_};
 ghost use Rattle.words.specs.Rules.{answer};
 ghost use Rattle.meaning.specs.PackedMessages.{readingRules, readMessage};
 ghost use Rattle.viewer.specs.Questions.{notificationField, entryField, nullificationField, messageField, fieldIn};
+
+// With a refusal the length is 0 and the book all zero.
+#[repr(C)]
+pub struct OpenedPacked {
+    pub answer: u8,
+    pub length: usize,
+    pub book: book::Book,
+}
+
+// `bar` is the number of the mark's case: 0 Blank, 1 OneSide, 2 Agreed, 3 Disagreed; a figure that the case does not have is positive zero. With a
+// refusal the mark is blank.
+#[repr(C)]
+pub struct MarkNumbers {
+    pub answer: u8,
+    pub bar: u8,
+    pub first: f64,
+    pub second: f64,
+}
 
 const PERIODS: u32 = 100;
 

@@ -1,0 +1,110 @@
+-- A book from a packed setup: it opens exactly where it reads. What was read keeps the setup rules, and a refused setup, all zero, breaks them.
+use mathlib.Core.Bool.{false}
+use mathlib.Core.List.{List}
+use mathlib.Core.Logic.{_≢_}
+use mathlib.Core.Path.{_≡_, refl, sym, ap, _∙_}
+use Prim.Native.Nat.{ℕ}
+use lib.IntN.{ℤ}
+use lib.ListN.{length}
+use borrow.Author.Tests.{ne-eqb}
+use Rattle.words.specs.Tests.{_=?_}
+use Rattle.words.specs.Rules.{answer}
+use Rattle.laws.proofs.Cases.{by-eq}
+use Rattle.meaning.specs.Books as Books
+use Rattle.meaning.specs.Books.{countsWrong, lastDayWrong, lentWrong, codeWrong, someRowWrong, openingRules}
+use Rattle.meaning.specs.PackedMessages.{Reading}
+use Rattle.meaning.specs.PackedSetups.{noSetup, setupIn, setupReadingRules, readSetup}
+use Rattle.meaning.proofs.PackedSetupRules.{setup-reading-answer, setup-reading-done, setup-readable}
+use Rattle.setups.specs.Structs.{setupOf, setupFor, setupRead}
+use Rattle.setups.specs.declared.Setup.{Setup}
+use Rattle.setups.specs.declared.SetupRead.{SetupRead}
+use Rattle.setups.proofs.ReadParts.{struct-holds, few-codes, few-rows}
+use Rattle.setups.proofs.SetupHeld.{codes-own}
+use Rattle.book.specs.Answers.{opened, heldOpened, sideOpened}
+use Rattle.book.specs.declared.Opened.{Opened}
+use Rattle.book.proofs.UniqueState.{Opens}
+use Rattle.viewer.specs.Opening.{openedPacked}
+use Rattle.viewer.specs.declared.OpenedPacked.{OpenedPacked}
+
+-- ---- it opens exactly where it reads
+
+module _ (bytes : List ℕ) (slots lent1 lent2 : ℕ) where
+  abbrev reading : Reading Books.Setup
+  reading = readSetup bytes slots lent1 lent2
+
+  abbrev number : ℕ
+  number = answer (setupReadingRules bytes slots lent1 lent2)
+
+  abbrev opening : Books.Setup → ℕ
+  opening s = answer (openingRules s slots lent1 lent2)
+
+  -- a setup that was read is what its struct holds, and opens
+  read-opens : number ≡ 0 → opening (setupOf (setupFor (setupIn bytes))) ≡ 0
+  unfolding answer openingRules
+  read-opens e =
+      let r = setup-readable bytes slots lent1 lent2 e in
+      rw (
+        struct-holds (setupIn bytes) (few-codes (setupIn bytes) (r .counts)) (few-rows (setupIn bytes) (r .counts)),
+        r .counts,
+        r .lastDay,
+        r .lent,
+        r .codes,
+        r .rows,
+      )
+
+  refused-read : number ≢ 0 → reading ≡ record { answer = number; length = 0; read = noSetup }
+  unfolding readSetup
+  refused-read n = rw (ne-eqb number 0 n)
+
+  -- no day
+  none-opens : opening (setupOf (setupFor noSetup)) ≡ 17
+  unfolding answer openingRules countsWrong setupOf setupFor
+  none-opens = rw (codes-own 0 (setupFor noSetup .codes))
+
+  pub opens-exactly : (opening (setupOf (setupFor (reading .read))) =? 0) ≡ (reading .answer =? 0)
+  opens-exactly =
+      by-eq number 0
+      (λ e. rw (setup-reading-done bytes slots lent1 lent2 e, read-opens e))
+      (λ n. rw (refused-read n, none-opens, ne-eqb number 0 n))
+
+-- ---- so what opening gives and leaves is what reading's answer says
+
+module _ (n m : ℕ) (e : (n =? 0) ≡ (m =? 0)) where
+  same-book : (s : Setup) → opened s n .book ≡ opened s m .book
+  unfolding opened
+  same-book s = rw e
+
+  same-held : (held : List ℕ) → heldOpened n held ≡ heldOpened m held
+  unfolding heldOpened
+  same-held held = rw e
+
+  same-side : (side : List ℤ) → sideOpened n side ≡ sideOpened m side
+  unfolding sideOpened
+  same-side side = rw e
+
+module _ (bytes held : List ℕ) (side1 side2 : List ℤ) where
+  abbrev whole : Reading Books.Setup
+  whole = readSetup bytes (length held) (length side1) (length side2)
+
+  -- what is promised of the result and of the three tables
+  abbrev pub OpensPacked : OpenedPacked → List ℕ → List ℤ → List ℤ → Type 0
+  OpensPacked r h l1 l2 =
+      (r ≡ openedPacked whole)
+      × (h ≡ heldOpened (whole .answer) held)
+      × (l1 ≡ sideOpened (whole .answer) side1)
+      × (l2 ≡ sideOpened (whole .answer) side2)
+
+  pub opened-from : (read : SetupRead) (o : Opened) (h : List ℕ) (l1 l2 : List ℤ) → read ≡ setupRead whole → Opens (read .setup) held side1 side2 o h l1 l2
+      → OpensPacked (record { answer = read .answer; length = read .length; book = o .book }) h l1 l2
+  unfolding setupRead openedPacked
+  opened-from read o h l1 l2 e q =
+      let s = setupFor (whole .read) in
+      let n = answer (openingRules (setupOf s) (length held) (length side1) (length side2)) in
+      let m = whole .answer in
+      let same = opens-exactly bytes (length held) (length side1) (length side2) in
+      let w : Opens s held side1 side2 o h l1 l2 = rw e at q in (
+        rw (e, w .0, same-book n m same s),
+        w .1 ∙ same-held n m same held,
+        w .2 ∙ same-side n m same side1,
+        w .3 ∙ same-side n m same side2,
+      )
