@@ -1,14 +1,25 @@
 /* One position, right way up: packed messages, and a book of energy contract positions, from C.
  *
- * Link with the archive that `rt staticlib viewer` writes (libviewer.a, x86-64). Every function may be called with any bytes, tables and
- * numbers: it reads and writes only what is lent, keeps no pointer and always returns. A pointer must point somewhere, also where its length
- * is 0, and lent buffers may not overlap. What each function answers is proved; the promise stands beside its source in
- * crates/viewer/src/lib.rt and books.rt.
+ * Link with the archive that `rt staticlib viewer` writes (libviewer.a, x86-64). What each function answers is proved for every input; the promise
+ * stands beside its source in crates/viewer/src, and docs/PROMISES.md says it in words.
  *
- * A book is a struct by value and three tables that the caller owns and lends: `held`, a number a slot, and `side1`, `side2`, each
- * slots * days * 50 volumes. Place (slot * days + day) * 50 + period - 1 of a side is what stands there, in whole kWh, or GHENDUFIKA_MARK where
- * nothing stands. Change them by these functions only: tables that are no sound book are refused by 1. A refusal leaves every table and buffer
- * as it was; its other results are zero.
+ * CALLING. Every function may be called with any bytes, tables and numbers: it reads and writes only what is lent, keeps no pointer, allocates
+ * nothing and always returns. A pointer must point somewhere, also where its length is 0; buffers lent to one call may not overlap; a pointer must
+ * be aligned for its type. Lengths count elements, not bytes. Structs go in and come out by value; nothing has to be freed.
+ *
+ * UNITS. Volumes are whole kWh, from -99,999,999 to 99,999,999. Figures (double) are MWh. Days are day numbers: 0 is 1 January 2000, 65,534 the
+ * last; as a last day 65,535 is evergreen, without end. Periods count from 1 to the day's length, 46, 48 or 50. Slots, accounts, authorisations and
+ * sides' table places count from 0; the two sides are 1 and 2. Plus is sold and minus bought, seen from account 1 of an authorisation.
+ *
+ * A BOOK is a struct by value and three tables that the caller owns and lends to each call: `held`, one number a slot (1 to 256 slots; 0 where a
+ * slot is unheld, else 1 + originator * 65,536 + reference), and `side1` and `side2`, each exactly slots * days * 50 volumes. Place
+ * (slot * days + day's place) * 50 + period - 1 of a side holds what stands there, or GHENDUFIKA_MARK where nothing stands. A call that changes the
+ * book (opening, a gate, a packed message) returns it; keep the returned one. Change the tables by these functions only: tables that are no sound
+ * book are refused by 1 and stay as they are.
+ *
+ * ANSWERS. 0 is done; every other number is a refusal. Each function names the numbers that can come in the order in which they are tested: the
+ * first that applies is the answer. A refusal leaves every table and buffer as it was and closes no gate. Its other results are zero, except where
+ * the declaration says otherwise.
  */
 #ifndef GHENDUFIKA_H
 #define GHENDUFIKA_H
@@ -21,20 +32,82 @@
 extern "C" {
 #endif
 
-/* Refusals of reading a message (document 01, "Answer numbers"); 0 is none. */
+/* ---- numbers */
+
+/* Answers (document 01, "Answer numbers"). */
 #define GHENDUFIKA_DONE 0
+#define GHENDUFIKA_NOT_SOUND 1              /* the tables handed in are not a sound book */
+#define GHENDUFIKA_EVERY_GATE_CLOSED 2
+#define GHENDUFIKA_NO_AUTHORISATION 3       /* authorisation number unknown */
+#define GHENDUFIKA_KEY_OR_AGENT_WRONG 4     /* key wrong, or agent is neither of its two */
+#define GHENDUFIKA_NOT_IN_FORCE 5           /* authorisation not in force on the current day */
+#define GHENDUFIKA_ORIGINATOR_WRONG 6       /* neither this authorisation nor an expired one of the same two accounts */
+#define GHENDUFIKA_LAST_BEFORE_FIRST 7      /* last day before first day */
+#define GHENDUFIKA_LAST_DAY_PAST 8          /* last day before the current day */
+#define GHENDUFIKA_FIRST_DAY_AFTER_BOOK 9   /* first day after the book's last day */
+#define GHENDUFIKA_PERIOD_WRONG 10          /* 0, too high, or not strictly rising; an entry past the 50th counts as too high */
+#define GHENDUFIKA_VOLUME_WRONG 11          /* a volume out of range */
+#define GHENDUFIKA_REPLACEMENT_NOT_ALLOWED 12
+#define GHENDUFIKA_ADDITIONAL_NOT_ALLOWED 13
+#define GHENDUFIKA_NO_SLOT 14               /* identifier not held and every slot held */
+#define GHENDUFIKA_NO_SUCH_ACCOUNT 15       /* not in the book, not in the pair, or the two equal */
+#define GHENDUFIKA_NO_SUCH_DAY 16           /* no such day number, period or side */
+#define GHENDUFIKA_SETUP_WRONG 17           /* counts, day code, last day or lent lengths wrong */
+#define GHENDUFIKA_AUTHORISATION_ROW_WRONG 18
 #define GHENDUFIKA_BYTES_END_TOO_SOON 19
-#define GHENDUFIKA_KIND_THREE 20
-#define GHENDUFIKA_TOO_MANY_ENTRIES 21
-#define GHENDUFIKA_PADDING_BIT 22
+#define GHENDUFIKA_KIND_THREE 20            /* message kind 3 */
+#define GHENDUFIKA_TOO_MANY_ENTRIES 21      /* more than 50 entries to read */
+#define GHENDUFIKA_PADDING_BIT 22           /* a padding bit is 1 */
+#define GHENDUFIKA_VALUE_DOES_NOT_FIT 23    /* a value does not fit its field, or more than 50 entries to write */
+#define GHENDUFIKA_NO_ROOM 24               /* no room for the packed message, or for a day's answers */
+#define GHENDUFIKA_NOT_HELD 25              /* identifier not held */
+#define GHENDUFIKA_TOTAL_TOO_LARGE 26       /* beyond 99,999,999,999 either way; never of a sound book */
+
+/* "Nothing stands." Zero is not nothing. */
+#define GHENDUFIKA_MARK INT32_MIN
+
+/* As a last day: no end. */
+#define GHENDUFIKA_EVERGREEN 65535u
+
+/* Limits. */
+#define GHENDUFIKA_MOST_ENTRIES 50u
+#define GHENDUFIKA_PLACES_A_DAY 50
+#define GHENDUFIKA_MOST_SLOTS 256
+#define GHENDUFIKA_MOST_DAYS 8
+#define GHENDUFIKA_FEWEST_ACCOUNTS 2
+#define GHENDUFIKA_MOST_ACCOUNTS 64
+#define GHENDUFIKA_MOST_AUTHORISATIONS 64
+#define GHENDUFIKA_MOST_VOLUME 99999999
+#define GHENDUFIKA_MOST_MESSAGE_BYTES 224u /* a notification of 50 entries */
+#define GHENDUFIKA_MOST_SETUP_BYTES 631u   /* 8 days, 64 authorisations */
 
 /* Kinds of a message. */
 #define GHENDUFIKA_GATE 0
 #define GHENDUFIKA_NOTIFICATION 1
 #define GHENDUFIKA_NULLIFICATION 2
 
-/* Fields of a message. A field that a kind lacks is 0, and so is an unknown one. Days are day numbers, 0 being 1 January 2000; a last day of
- * 65535 is evergreen. Volumes are whole kWh. */
+/* Kinds of a notification that was accepted. */
+#define GHENDUFIKA_INITIAL 1
+#define GHENDUFIKA_REPLACEMENT 2
+#define GHENDUFIKA_ADDITIONAL 3
+
+/* Types of an authorisation: which amendments it allows. */
+#define GHENDUFIKA_TYPE_BOTH 0
+#define GHENDUFIKA_TYPE_REPLACEMENT 1
+#define GHENDUFIKA_TYPE_ADDITIONAL 2
+
+/* Codes of a day. */
+#define GHENDUFIKA_DAY_OF_46 0
+#define GHENDUFIKA_DAY_OF_48 1
+#define GHENDUFIKA_DAY_OF_50 2
+
+/* Marks on a bar: nothing stands; one side stands; both stand and are equal; both stand and differ. */
+#define GHENDUFIKA_BLANK 0
+#define GHENDUFIKA_ONE_SIDE 1
+#define GHENDUFIKA_AGREED 2
+#define GHENDUFIKA_DISAGREED 3
+
+/* Fields of a message, for ghendufika_message_field. A field that a kind lacks is 0, and so is an unknown one. */
 #define GHENDUFIKA_FIELD_KIND 0u
 #define GHENDUFIKA_FIELD_AUTHORISATION 1u
 #define GHENDUFIKA_FIELD_AGENT 2u
@@ -46,49 +119,27 @@ extern "C" {
 #define GHENDUFIKA_FIELD_COUNT 8u
 #define GHENDUFIKA_FIELD_ACCOUNT 9u /* of a nullification */
 #define GHENDUFIKA_FIELD_OTHER_ACCOUNT 10u
-#define GHENDUFIKA_MOST_ENTRIES 50u
 #define GHENDUFIKA_FIELD_PERIOD(entry) (100u + (entry)) /* entry 0 to 49; 0 past the count */
 #define GHENDUFIKA_FIELD_VOLUME(entry) (200u + (entry))
 
-/* ---- about message bytes, each asked apart */
+/* ---- structs (tests/layout.c holds them against the archive) */
 
-/* The number that refuses these bytes as a message, or 0. Bytes after the message belong to the next and are not looked at. */
-uint8_t ghendufika_message_refusal(const uint8_t *bytes, size_t length);
-
-/* How many bytes the message takes; 0 with a refusal. */
-size_t ghendufika_message_length(const uint8_t *bytes, size_t length);
-
-/* One field of the message; 0 with a refusal. */
-int64_t ghendufika_message_field(const uint8_t *bytes, size_t length, uint32_t field);
-
-/* ---- a book */
-
-/* "Nothing stands." Zero is not nothing. */
-#define GHENDUFIKA_MARK INT32_MIN
-#define GHENDUFIKA_PLACES_A_DAY 50
-#define GHENDUFIKA_MOST_SLOTS 256
-#define GHENDUFIKA_MOST_DAYS 8
-
-/* Agents, accounts and key as document 01 has them; amendment is 0 both, 1 replacement, 2 additional. */
+/* Equal agents mean single notification: that agent writes both sides. Otherwise agent 1 writes side 1 and agent 2 side 2. */
 typedef struct {
     uint8_t agent1, agent2, account1, account2;
-    uint16_t key, first, last;
-    uint8_t amendment;
+    uint16_t key, first, last; /* days; last may be evergreen */
+    uint8_t amendment;         /* GHENDUFIKA_TYPE_BOTH, .. */
 } ghendufika_authorisation;
 
-/* A day's code is 0, 1 or 2 for 46, 48 or 50 periods. What is past `days` and `authorisations` is no part of it. */
+/* What is past `days` in codes and past `authorisations` in rows is no part of it; read, it is zero. */
 typedef struct {
-    uint16_t first;
-    uint8_t days, accounts, authorisations;
-    uint8_t codes[8];
+    uint16_t first;         /* day */
+    uint8_t days;           /* 1 to 8 */
+    uint8_t accounts;       /* 2 to 64 */
+    uint8_t authorisations; /* 1 to 64 */
+    uint8_t codes[8];       /* GHENDUFIKA_DAY_OF_46, .. */
     ghendufika_authorisation rows[64];
 } ghendufika_setup;
-
-typedef struct {
-    uint8_t answer;
-    size_t length; /* bytes that the setup takes */
-    ghendufika_setup setup;
-} ghendufika_setup_read;
 
 /* The setup, and how many gates are closed. */
 typedef struct {
@@ -96,21 +147,13 @@ typedef struct {
     uint16_t closed;
 } ghendufika_book;
 
-typedef struct {
-    uint8_t answer;
-    ghendufika_book book; /* opened; all zero with a refusal */
-} ghendufika_opened;
-
-typedef struct {
-    uint8_t answer;
-    ghendufika_book book; /* with one gate more closed; as it came with a refusal */
-} ghendufika_gated;
-
+/* One period and its volume. */
 typedef struct {
     uint8_t period;
     int32_t volume;
 } ghendufika_entry;
 
+/* `authorisation` is the one that it is sent under; originator and reference are the identifier. Entries past `count` are no part of it. */
 typedef struct {
     uint8_t authorisation, agent;
     uint16_t key;
@@ -120,21 +163,67 @@ typedef struct {
     ghendufika_entry entries[50];
 } ghendufika_notification;
 
+/* The two accounts in either order, and the first day. */
 typedef struct {
     uint8_t account, other;
     uint16_t first;
 } ghendufika_nullification;
 
+/* What the kind lacks is no part of it; read, it is zero. */
+typedef struct {
+    uint8_t kind; /* GHENDUFIKA_GATE, .. */
+    ghendufika_notification notification;
+    ghendufika_nullification nullification;
+} ghendufika_message;
+
 typedef struct {
     uint8_t answer;
-    uint8_t kind; /* 1 initial, 2 replacement, 3 additional */
-    uint16_t slot;
+    size_t length; /* bytes that the message takes */
+    ghendufika_message message;
+} ghendufika_message_read;
+
+typedef struct {
+    uint8_t answer;
+    size_t length; /* bytes written */
+} ghendufika_message_written;
+
+typedef struct {
+    uint8_t answer;
+    size_t length; /* bytes that the setup takes; the messages follow there */
+    ghendufika_setup setup;
+} ghendufika_setup_read;
+
+typedef struct {
+    uint8_t answer;
+    size_t length; /* bytes written */
+} ghendufika_setup_written;
+
+typedef struct {
+    uint8_t answer;
+    ghendufika_book book; /* opened; all zero with a refusal */
+} ghendufika_opened;
+
+typedef struct {
+    uint8_t answer;
+    size_t length;        /* bytes that the setup takes; the messages follow there */
+    ghendufika_book book; /* opened; all zero with a refusal */
+} ghendufika_opened_packed;
+
+typedef struct {
+    uint8_t answer;
+    ghendufika_book book; /* with one gate more closed; as it came with a refusal */
+} ghendufika_gated;
+
+typedef struct {
+    uint8_t answer;
+    uint8_t kind;  /* GHENDUFIKA_INITIAL, ..; 0 with a refusal */
+    uint16_t slot; /* that holds its identifier */
 } ghendufika_notified;
 
 typedef struct {
     uint8_t answer;
-    size_t length; /* of the message; 0 exactly where it is unreadable (19 to 22) */
-    ghendufika_book book;
+    size_t length;        /* of the message; 0 exactly where it is unreadable (19 to 22) */
+    ghendufika_book book; /* after it; as it came with a refusal */
 } ghendufika_applied;
 
 typedef struct {
@@ -150,7 +239,7 @@ typedef struct {
 } ghendufika_totalled;
 
 typedef struct {
-    double sold, bought, net; /* MWh */
+    double sold, bought, net; /* MWh; zero is positive zero */
 } ghendufika_day_figures;
 
 typedef struct {
@@ -158,45 +247,101 @@ typedef struct {
     ghendufika_day_figures day;
 } ghendufika_figured;
 
-/* A packed setup, for so many slots and two side tables of such lengths: 19, 17, 19, 17, 18, 22. */
+/* A figure that the mark does not have is positive zero. */
+typedef struct {
+    uint8_t answer;
+    uint8_t bar;   /* GHENDUFIKA_BLANK, ..; Blank with a refusal */
+    double first;  /* MWh seen from the asking account; side 1's where the two differ */
+    double second; /* side 2's, of GHENDUFIKA_DISAGREED only */
+} ghendufika_marked;
+
+/* A day's row is `length` volumes from place `start` on of the side's own table: side1 + start, or side2 + start. */
+typedef struct {
+    uint8_t answer;
+    size_t start;
+    size_t length; /* the day's periods; 0 exactly with a refusal */
+} ghendufika_row_place;
+
+/* ---- about message bytes, each asked apart */
+
+/* The number that refuses these bytes as a message, or 0: 19, 20, 19, 21, 19, 22. Bytes after the message belong to the next and are not looked at. */
+uint8_t ghendufika_message_refusal(const uint8_t *bytes, size_t length);
+
+/* How many bytes the message takes; 0 with a refusal. */
+size_t ghendufika_message_length(const uint8_t *bytes, size_t length);
+
+/* One field of the message; 0 with a refusal. */
+int64_t ghendufika_message_field(const uint8_t *bytes, size_t length, uint32_t field);
+
+/* ---- packing */
+
+/* The message at the front of the bytes: 19, 20, 19, 21, 19, 22. With a refusal the length is 0 and the message all zero. */
+ghendufika_message_read ghendufika_read_message(const uint8_t *bytes, size_t length);
+
+/* The message to the front of the buffer: 20, 23, 24. Bytes of the buffer past what is written stay. A buffer of GHENDUFIKA_MOST_MESSAGE_BYTES has
+ * room for every message. */
+ghendufika_message_written ghendufika_write_message(ghendufika_message message, uint8_t *out, size_t room);
+
+/* A packed setup, for so many slots and two side tables of such lengths: 19, 17, 19, 17, 18, 22. With a refusal the length is 0 and the setup all
+ * zero. */
 ghendufika_setup_read ghendufika_read_setup(const uint8_t *bytes, size_t length, size_t slots, size_t lent1, size_t lent2);
 
-/* 17, 18; empties the three tables. The number of slots is the length of `held`. */
+/* The setup to the front of the buffer: 17, 18, 24 (23 never comes: what passes 17 and 18 fits). Bytes of the buffer past what is written stay. A
+ * buffer of GHENDUFIKA_MOST_SETUP_BYTES has room for every setup. */
+ghendufika_setup_written ghendufika_write_setup(ghendufika_setup setup, uint8_t *out, size_t room);
+
+/* ---- calls on a book */
+
+/* Opens a book and empties the three tables: no gate closed, no identifier held, the mark in every place. The number of slots is the length of
+ * `held`: 17, 18. */
 ghendufika_opened ghendufika_open(ghendufika_setup setup, uint32_t *held, size_t slots, int32_t *side1, size_t lent1, int32_t *side2, size_t lent2);
 
+/* Reads a packed setup for the lent tables and opens it: 19, 17, 19, 17, 18, 22. What is read is always opened. */
+ghendufika_opened_packed ghendufika_open_packed(const uint8_t *bytes, size_t length, uint32_t *held, size_t slots, int32_t *side1, size_t lent1, int32_t *side2, size_t lent2);
+
+/* Whether the tables are a sound book: where not, every call and question answers 1. */
 bool ghendufika_is_sound(ghendufika_book book, const uint32_t *held, size_t slots, const int32_t *side1, size_t lent1, const int32_t *side2, size_t lent2);
 
 /* Closes the next gate: 1, 2. */
 ghendufika_gated ghendufika_close_gate(ghendufika_book book, const uint32_t *held, size_t slots, const int32_t *side1, size_t lent1, const int32_t *side2, size_t lent2);
 
-/* 1 to 14 as numbered. */
+/* A notification: 1 to 14 as numbered. */
 ghendufika_notified ghendufika_notify(ghendufika_book book, ghendufika_notification notification, uint32_t *held, size_t slots, int32_t *side1, size_t lent1, int32_t *side2, size_t lent2);
 
-/* 1, 2, 15, 9. */
+/* A nullification: 1, 2, 15, 9. Where nothing stands it is still 0. */
 uint8_t ghendufika_nullify(ghendufika_book book, ghendufika_nullification nullification, const uint32_t *held, size_t slots, int32_t *side1, size_t lent1, int32_t *side2, size_t lent2);
 
-/* One packed message: 19 to 22 first, then what the book answers. */
+/* One packed message: 19 to 22 as in reading first, then what the book answers. The length is given with the book's refusals too, since the next
+ * message starts there. */
 ghendufika_applied ghendufika_apply(ghendufika_book book, const uint8_t *bytes, size_t length, uint32_t *held, size_t slots, int32_t *side1, size_t lent1, int32_t *side2, size_t lent2);
 
 /* Packed messages one after the other, until the bytes end, one is unreadable (its answer is the last) or `answers` is full. Where the last
  * answer is 19 and more bytes may come, forget it and call again from `used` on. */
 ghendufika_applied_all ghendufika_apply_all(ghendufika_book book, const uint8_t *bytes, size_t length, uint32_t *held, size_t slots, int32_t *side1, size_t lent1, int32_t *side2, size_t lent2, uint8_t *answers, size_t room);
 
-/* An account's total in a period: 1, 15, 16, 26. Plus is sold. */
+/* ---- questions of a book; they change nothing but the buffer that they fill */
+
+/* An account's total in a period, matched volumes only: 1, 15, 16, 26. Plus is sold. */
 ghendufika_totalled ghendufika_total(ghendufika_book book, const uint32_t *held, size_t slots, const int32_t *side1, size_t lent1, const int32_t *side2, size_t lent2, uint8_t account, uint16_t day, uint8_t period);
 
-/* Those of all periods of a day, the first in kwh[0]: 1, 15, 16, and 24 where `room` is less than the day's periods. */
+/* Those of all periods of a day, the first in kwh[0]: 1, 15, 16, and 24 where `room` is less than the day's periods. Places past them stay. */
 uint8_t ghendufika_day_totals(ghendufika_book book, const uint32_t *held, size_t slots, const int32_t *side1, size_t lent1, const int32_t *side2, size_t lent2, uint8_t account, uint16_t day, int64_t *kwh, size_t room);
 
-/* Sold, bought and net MWh of a day: 1, 15, 16. */
+/* Sold, bought and net MWh of a day: 1, 15, 16. Net is sold less bought, made of whole kWh. */
 ghendufika_figured ghendufika_figures(ghendufika_book book, const uint32_t *held, size_t slots, const int32_t *side1, size_t lent1, const int32_t *side2, size_t lent2, uint8_t account, uint16_t day);
 
-/* Whether the row of an identifier's day and side (1 or 2) can be shown: 1, 25, 16. */
-uint8_t ghendufika_row_refusal(ghendufika_book book, const uint32_t *held, size_t slots, const int32_t *side1, size_t lent1, const int32_t *side2, size_t lent2, uint8_t originator, uint16_t reference, uint16_t day, uint8_t side);
+/* What an account is shown of an identifier in one period: 1, 25, 15, 16. */
+ghendufika_marked ghendufika_mark(ghendufika_book book, const uint32_t *held, size_t slots, const int32_t *side1, size_t lent1, const int32_t *side2, size_t lent2, uint8_t originator, uint16_t reference, uint8_t account, uint16_t day, uint8_t period);
 
-/* What an account is shown of an identifier on each period of a day: cases[p] is 0 Blank, 1 OneSide, 2 Agreed, 3 Disagreed, with its MWh in
- * firsts[p] and, for Disagreed, side 2's in seconds[p]: 1, 25, 15, 16, and 24 where one of the buffers is shorter than the day. */
+/* The same of each period of a day: cases[p] is the bar of period p + 1, with its figures in firsts[p] and seconds[p]: 1, 25, 15, 16, and 24 where
+ * one of the buffers is shorter than the day. Places past the day stay. */
 uint8_t ghendufika_day_marks(ghendufika_book book, const uint32_t *held, size_t slots, const int32_t *side1, size_t lent1, const int32_t *side2, size_t lent2, uint8_t originator, uint16_t reference, uint8_t account, uint16_t day, uint8_t *cases, size_t case_room, double *firsts, size_t first_room, double *seconds, size_t second_room);
+
+/* Where the row of an identifier's day and side (1 or 2) lies: 1, 25, 16. */
+ghendufika_row_place ghendufika_row(ghendufika_book book, const uint32_t *held, size_t slots, const int32_t *side1, size_t lent1, const int32_t *side2, size_t lent2, uint8_t originator, uint16_t reference, uint16_t day, uint8_t side);
+
+/* That answer alone. */
+uint8_t ghendufika_row_refusal(ghendufika_book book, const uint32_t *held, size_t slots, const int32_t *side1, size_t lent1, const int32_t *side2, size_t lent2, uint8_t originator, uint16_t reference, uint16_t day, uint8_t side);
 
 #ifdef __cplusplus
 }
