@@ -1,0 +1,360 @@
+/* Document 01's table P1 to P13 by the whole book from C: a setup written, opened packed, messages written, read and sent as structs, and what is
+ * then shown as marks, rows and totals. Every expected number is document 01's, or follows from it by hand. */
+#include "ghendufika.h"
+
+#include <stdio.h>
+#include <stdlib.h>
+#include <string.h>
+
+enum { SLOTS = 4, DAYS = 3, PLACES = SLOTS * DAYS * GHENDUFIKA_PLACES_A_DAY };
+
+static ghendufika_book book;
+static uint32_t held[SLOTS];
+static int32_t side1[PLACES], side2[PLACES];
+static unsigned long checks;
+
+#define LENT held, SLOTS, side1, PLACES, side2, PLACES
+#define EXPECT(what, found, expected) expect(__LINE__, what, (double)(found), (double)(expected))
+
+static void expect(int line, const char *what, double found, double expected) {
+    checks++;
+    if (memcmp(&found, &expected, sizeof found) == 0) return; /* so that minus zero is not zero */
+    fprintf(stderr, "whole_book.c:%d: %s is %.17g, and document 01 has %.17g\n", line, what, found, expected);
+    exit(1);
+}
+
+/* ---- the table's book: "Days 100 (48), 101 (46), 102 (50), accounts 0 to 2", and its three authorisations */
+
+static ghendufika_setup the_setup(void) {
+    ghendufika_setup s = {.first = 100, .days = 3, .accounts = 3, .authorisations = 3, .codes = {GHENDUFIKA_DAY_OF_48, GHENDUFIKA_DAY_OF_46, GHENDUFIKA_DAY_OF_50}};
+    s.rows[0] = (ghendufika_authorisation){.agent1 = 7, .agent2 = 9, .account1 = 0, .account2 = 1, .key = 500, .last = GHENDUFIKA_EVERGREEN, .amendment = GHENDUFIKA_TYPE_BOTH};
+    s.rows[1] = (ghendufika_authorisation){.agent1 = 7, .agent2 = 7, .account1 = 1, .account2 = 2, .key = 600, .last = GHENDUFIKA_EVERGREEN, .amendment = GHENDUFIKA_TYPE_REPLACEMENT};
+    s.rows[2] = (ghendufika_authorisation){.agent1 = 7, .agent2 = 9, .account1 = 0, .account2 = 1, .key = 700, .last = 99, .amendment = GHENDUFIKA_TYPE_BOTH};
+    return s;
+}
+
+/* The same by hand, "most significant bit first": first day 16, days 4, accounts 7, authorisations 7, a code of 2 each, rows of 78 bits. */
+static size_t bit;
+
+static void put(uint8_t *bytes, unsigned width, unsigned value) {
+    for (unsigned k = width; k-- > 0; bit++) bytes[bit / 8] = (uint8_t)(bytes[bit / 8] | (value >> k & 1u) << (7 - bit % 8));
+}
+
+static size_t pack_by_hand(uint8_t *bytes) {
+    static const unsigned head[] = {16, 100, 4, 3, 7, 3, 7, 3, 2, 1, 2, 0, 2, 2};
+    static const unsigned widths[8] = {8, 8, 6, 6, 16, 16, 16, 2};
+    static const unsigned rows[3][8] = {{7, 9, 0, 1, 500, 0, 65535, 0}, {7, 7, 1, 2, 600, 0, 65535, 1}, {7, 9, 0, 1, 700, 0, 99, 0}};
+    bit = 0;
+    for (size_t k = 0; k < sizeof head / sizeof *head; k += 2) put(bytes, head[k], head[k + 1]);
+    for (int r = 0; r < 3; r++)
+        for (int k = 0; k < 8; k++) put(bytes, widths[k], rows[r][k]);
+    return (bit + 7) / 8;
+}
+
+static void open_the_book(void) {
+    uint8_t bytes[GHENDUFIKA_MOST_SETUP_BYTES];
+    ghendufika_setup_written w = ghendufika_write_setup(the_setup(), bytes, sizeof bytes);
+    EXPECT("writing the setup", w.answer, 0);
+    memset(side1, 1, sizeof side1), memset(side2, 2, sizeof side2), memset(held, 3, sizeof held);
+    ghendufika_opened_packed o = ghendufika_open_packed(bytes, w.length, LENT);
+    EXPECT("opening", o.answer, 0);
+    EXPECT("bytes of the setup", o.length, 35); /* 34 + 3 * 2 + 3 * 78 bits */
+    book = o.book;
+}
+
+/* ---- messages: written, read back, and sent as read */
+
+static ghendufika_message passed_on(ghendufika_message m, size_t length) {
+    uint8_t bytes[GHENDUFIKA_MOST_MESSAGE_BYTES + 1];
+    memset(bytes, 0xEE, sizeof bytes);
+    ghendufika_message_written w = ghendufika_write_message(m, bytes, sizeof bytes);
+    EXPECT("writing", w.answer, 0);
+    EXPECT("bytes written", w.length, length);
+    EXPECT("the byte behind", bytes[length], 0xEE);
+    ghendufika_message_read r = ghendufika_read_message(bytes, sizeof bytes);
+    EXPECT("reading", r.answer, 0);
+    EXPECT("bytes read", r.length, length);
+    EXPECT("the kind", r.message.kind, m.kind);
+    return r.message;
+}
+
+/* under an authorisation with its key, by an agent, of an identifier, for days, one period and its volume */
+static ghendufika_notified said(unsigned under, unsigned agent, unsigned originator, unsigned reference, unsigned first, unsigned last, unsigned period, int32_t volume) {
+    static const uint16_t keys[] = {500, 600, 700};
+    ghendufika_message m = {.kind = GHENDUFIKA_NOTIFICATION};
+    m.notification = (ghendufika_notification){.authorisation = (uint8_t)under, .agent = (uint8_t)agent, .key = keys[under], .originator = (uint8_t)originator, .reference = (uint16_t)reference, .first = (uint16_t)first, .last = (uint16_t)last, .count = 1};
+    m.notification.entries[0] = (ghendufika_entry){.period = (uint8_t)period, .volume = volume};
+    return ghendufika_notify(book, passed_on(m, 16).notification, LENT); /* "16 for one" */
+}
+
+static uint8_t nullified(unsigned account, unsigned other, unsigned first) {
+    ghendufika_message m = {.kind = GHENDUFIKA_NULLIFICATION, .nullification = {.account = (uint8_t)account, .other = (uint8_t)other, .first = (uint16_t)first}};
+    return ghendufika_nullify(book, passed_on(m, 4).nullification, LENT);
+}
+
+/* ---- what is shown */
+
+static void expect_total(int line, unsigned account, unsigned day, int64_t kwh) { /* in period 1 */
+    ghendufika_totalled t = ghendufika_total(book, LENT, (uint8_t)account, (uint16_t)day, 1);
+    expect(line, "the total's answer", t.answer, 0);
+    expect(line, "the total", (double)t.kwh, (double)kwh);
+}
+
+static void expect_mark(int line, unsigned originator, unsigned reference, unsigned account, unsigned day, unsigned bar, double first, double second) { /* of period 1 */
+    ghendufika_marked m = ghendufika_mark(book, LENT, (uint8_t)originator, (uint16_t)reference, (uint8_t)account, (uint16_t)day, 1);
+    expect(line, "the mark's answer", m.answer, 0);
+    expect(line, "the bar", m.bar, bar);
+    expect(line, "the first figure", m.first, first);
+    expect(line, "the second figure", m.second, second);
+}
+
+/* a row of the day's length: period 1 holds `one`, every later period `later` */
+static void expect_row(int line, unsigned originator, unsigned reference, unsigned day, unsigned side, size_t length, int32_t one, int32_t later) {
+    ghendufika_row_place r = ghendufika_row(book, LENT, (uint8_t)originator, (uint16_t)reference, (uint16_t)day, (uint8_t)side);
+    expect(line, "the row's answer", r.answer, 0);
+    expect(line, "the row's length", (double)r.length, (double)length);
+    expect(line, "the row inside its table", r.start + r.length <= PLACES, 1);
+    const int32_t *row = (side == 1 ? side1 : side2) + r.start;
+    expect(line, "period 1", row[0], one);
+    for (size_t p = 1; p < length; p++) expect(line, "a later period", row[p], later);
+}
+
+#define TOTAL(account, day, kwh) expect_total(__LINE__, account, day, kwh)
+#define SHOWN(originator, reference, account, day, bar, first, second) expect_mark(__LINE__, originator, reference, account, day, bar, first, second)
+#define ROW(originator, reference, day, side, length, one, later) expect_row(__LINE__, originator, reference, day, side, length, one, later)
+
+/* ---- the table */
+
+static void p1_agent_7_says_5000(void) {
+    open_the_book();
+    ghendufika_notified n = said(0, 7, 0, 1, 100, 100, 1, 5000);
+    EXPECT("P1", n.answer, 0);
+    EXPECT("initial", n.kind, GHENDUFIKA_INITIAL);
+    EXPECT("the lowest slot", n.slot, 0);
+    TOTAL(0, 100, 0);
+    SHOWN(0, 1, 0, 100, GHENDUFIKA_ONE_SIDE, 5.0, 0.0);
+    SHOWN(0, 1, 1, 100, GHENDUFIKA_ONE_SIDE, -5.0, 0.0);
+    ROW(0, 1, 100, 1, 48, 5000, 0);
+    ROW(0, 1, 100, 2, 48, GHENDUFIKA_MARK, GHENDUFIKA_MARK);
+    ROW(0, 1, 101, 1, 46, GHENDUFIKA_MARK, GHENDUFIKA_MARK);
+}
+
+static void p2_agent_9_says_alike(void) {
+    p1_agent_7_says_5000();
+    EXPECT("P2", said(0, 9, 0, 1, 100, 100, 1, 5000).answer, 0);
+    TOTAL(0, 100, 5000);
+    TOTAL(1, 100, -5000);
+    SHOWN(0, 1, 0, 100, GHENDUFIKA_AGREED, 5.0, 0.0);
+    SHOWN(0, 1, 1, 100, GHENDUFIKA_AGREED, -5.0, 0.0);
+    ROW(0, 1, 100, 2, 48, 5000, 0);
+}
+
+static void p3_or_says_4999(void) {
+    p1_agent_7_says_5000();
+    EXPECT("P3", said(0, 9, 0, 1, 100, 100, 1, 4999).answer, 0);
+    TOTAL(0, 100, 0);
+    SHOWN(0, 1, 1, 100, GHENDUFIKA_DISAGREED, -5.0, -4.999);
+    SHOWN(0, 1, 0, 100, GHENDUFIKA_DISAGREED, 5.0, 4.999);
+}
+
+static void p4_the_largest_volumes(void) {
+    open_the_book();
+    EXPECT("99,999,999", said(0, 7, 0, 1, 100, 100, 1, 99999999).answer, 0);
+    EXPECT("-99,999,999", said(0, 7, 0, 1, 100, 100, 1, -99999999).answer, 0);
+    EXPECT("100,000,000", said(0, 7, 0, 1, 100, 100, 1, 100000000).answer, 11);
+}
+
+static void p5_evergreen_by_one_agent(void) {
+    open_the_book();
+    EXPECT("P5", said(1, 7, 1, 1, 100, GHENDUFIKA_EVERGREEN, 1, -20).answer, 0);
+    for (unsigned day = 100; day <= 102; day++) {
+        TOTAL(1, day, -20);
+        TOTAL(2, day, 20);
+        SHOWN(1, 1, 2, day, GHENDUFIKA_AGREED, 0.02, 0.0);
+    }
+    ROW(1, 1, 102, 2, 50, -20, 0);
+}
+
+static void p6_then_101_only(void) {
+    p5_evergreen_by_one_agent();
+    EXPECT("P6", said(1, 7, 1, 1, 101, 101, 1, -20).answer, 0);
+    ROW(1, 1, 102, 1, 50, GHENDUFIKA_MARK, GHENDUFIKA_MARK);
+    ROW(1, 1, 102, 2, 50, GHENDUFIKA_MARK, GHENDUFIKA_MARK);
+    SHOWN(1, 1, 1, 102, GHENDUFIKA_BLANK, 0.0, 0.0);
+    TOTAL(1, 100, -20);
+    ROW(1, 1, 100, 1, 48, -20, 0);
+}
+
+static void p7_to_p8_who_may_say(void) {
+    p5_evergreen_by_one_agent();
+    EXPECT("P7", said(1, 7, 1, 2, 101, 101, 1, 5).answer, 13);
+    open_the_book();
+    EXPECT("P8 under 0", said(0, 7, 2, 5, 100, 100, 1, 5).answer, 0);
+    EXPECT("P8 under 1", said(1, 7, 2, 5, 100, 100, 1, 5).answer, 6);
+    EXPECT("P8 under 2", said(2, 7, 2, 5, 100, 100, 1, 5).answer, 5);
+    SHOWN(2, 5, 0, 100, GHENDUFIKA_ONE_SIDE, 0.005, 0.0);
+}
+
+static void p9_a_closed_period_stays(void) {
+    p2_agent_9_says_alike();
+    ghendufika_gated g = ghendufika_close_gate(book, LENT);
+    EXPECT("one gate", g.answer, 0);
+    book = g.book;
+    EXPECT("P9", said(0, 9, 0, 1, 100, 100, 1, 6000).answer, 0);
+    TOTAL(0, 100, 5000);
+    SHOWN(0, 1, 1, 100, GHENDUFIKA_AGREED, -5.0, 0.0);
+    ROW(0, 1, 100, 2, 48, 5000, 0);
+}
+
+static void p10_to_p11_periods_and_days(void) {
+    open_the_book();
+    EXPECT("101 only, 47", said(0, 7, 0, 1, 101, 101, 47, 5).answer, 10);
+    EXPECT("101 to 102, 48", said(0, 7, 0, 1, 101, 102, 48, 5).answer, 0);
+    EXPECT("101 to 102, 49", said(0, 7, 0, 2, 101, 102, 49, 5).answer, 10);
+    EXPECT("102 only, 50", said(0, 7, 0, 3, 102, 102, 50, 5).answer, 0);
+    EXPECT("100 to 99", said(0, 7, 0, 4, 100, 99, 1, 5).answer, 7);
+    EXPECT("99 to 99", said(0, 7, 0, 4, 99, 99, 1, 5).answer, 8);
+    EXPECT("103 to 103", said(0, 7, 0, 4, 103, 103, 1, 5).answer, 9);
+}
+
+static void p12_to_p13_nullified(void) {
+    const uint8_t p13[4] = {0x80, 0x04, 0x01, 0x90};
+    uint8_t bytes[4];
+    p2_agent_9_says_alike();
+    EXPECT("0, 0", nullified(0, 0, 100), 15);
+    TOTAL(0, 100, 5000);
+    EXPECT("1, 0", nullified(1, 0, 100), 0);
+    for (int k = 0; k < PLACES; k++) EXPECT("nothing stands", side1[k] == GHENDUFIKA_MARK && side2[k] == GHENDUFIKA_MARK, 1);
+    SHOWN(0, 1, 0, 100, GHENDUFIKA_BLANK, 0.0, 0.0);
+    ghendufika_message m = {.kind = GHENDUFIKA_NULLIFICATION, .nullification = {.account = 0, .other = 1, .first = 100}};
+    EXPECT("P13", ghendufika_write_message(m, bytes, sizeof bytes).answer, 0);
+    EXPECT("80 04 01 90", memcmp(bytes, p13, sizeof p13), 0);
+}
+
+/* ---- beside the table: the packed sizes, every field of a setup and of a message, and what a refusal leaves */
+
+static void sizes_and_fields(void) {
+    ghendufika_message m = {.kind = GHENDUFIKA_GATE};
+    passed_on(m, 1);
+    m.kind = GHENDUFIKA_NOTIFICATION;
+    passed_on(m, 12);
+    m.notification.count = 48;
+    passed_on(m, 216);
+    m.notification = (ghendufika_notification){.authorisation = 61, .agent = 250, .key = 40001, .originator = 62, .reference = 50002, .first = 30003, .last = 60004, .count = 50};
+    for (int k = 0; k < 50; k++) m.notification.entries[k] = (ghendufika_entry){.period = (uint8_t)(k + 1), .volume = k % 2 ? k * 1000003 : -k * 1000003};
+    ghendufika_notification n = passed_on(m, 224).notification;
+    EXPECT("authorisation", n.authorisation, 61);
+    EXPECT("agent", n.agent, 250);
+    EXPECT("key", n.key, 40001);
+    EXPECT("originator", n.originator, 62);
+    EXPECT("reference", n.reference, 50002);
+    EXPECT("first", n.first, 30003);
+    EXPECT("last", n.last, 60004);
+    EXPECT("count", n.count, 50);
+    for (int k = 0; k < 50; k++) {
+        EXPECT("a period", n.entries[k].period, k + 1);
+        EXPECT("a volume", n.entries[k].volume, k % 2 ? k * 1000003 : -k * 1000003);
+    }
+}
+
+static void a_setup_by_hand(void) {
+    uint8_t by_hand[64] = {0}, bytes[64] = {0};
+    size_t length = pack_by_hand(by_hand);
+    EXPECT("writing", ghendufika_write_setup(the_setup(), bytes, sizeof bytes).length, length);
+    EXPECT("its bytes", memcmp(bytes, by_hand, sizeof bytes), 0);
+    ghendufika_opened_packed o = ghendufika_open_packed(by_hand, sizeof by_hand, LENT);
+    ghendufika_setup s = the_setup();
+    EXPECT("opening", o.answer, 0);
+    EXPECT("no gate closed", o.book.closed, 0);
+    EXPECT("first day", o.book.setup.first, s.first);
+    EXPECT("days", o.book.setup.days, s.days);
+    EXPECT("accounts", o.book.setup.accounts, s.accounts);
+    EXPECT("authorisations", o.book.setup.authorisations, s.authorisations);
+    for (int d = 0; d < 8; d++) EXPECT("a code", o.book.setup.codes[d], s.codes[d]);
+    for (int k = 0; k < 64; k++) {
+        const ghendufika_authorisation *a = &o.book.setup.rows[k], *e = &s.rows[k];
+        EXPECT("agents", a->agent1 * 256 + a->agent2, e->agent1 * 256 + e->agent2);
+        EXPECT("accounts", a->account1 * 256 + a->account2, e->account1 * 256 + e->account2);
+        EXPECT("key", a->key, e->key);
+        EXPECT("days", a->first * 65536.0 + a->last, e->first * 65536.0 + e->last);
+        EXPECT("type", a->amendment, e->amendment);
+    }
+}
+
+static void refused_openings_leave_the_tables(void) {
+    uint8_t bytes[64] = {0};
+    size_t length = pack_by_hand(bytes);
+    int32_t before = side1[0] = 12345;
+    held[0] = 77;
+    EXPECT("no bytes", ghendufika_open_packed(bytes, 0, LENT).answer, 19);
+    EXPECT("a byte short", ghendufika_open_packed(bytes, length - 1, LENT).answer, 19);
+    EXPECT("side 1 a slot too short", ghendufika_open_packed(bytes, length, held, SLOTS, side1, PLACES - 150, side2, PLACES).answer, 17);
+    EXPECT("side 2 too short", ghendufika_open_packed(bytes, length, held, SLOTS, side1, PLACES, side2, PLACES - 1).answer, 17);
+    bytes[34] |= 1;
+    ghendufika_opened_packed o = ghendufika_open_packed(bytes, length, LENT);
+    EXPECT("a padding bit", o.answer, 22);
+    EXPECT("length", o.length, 0);
+    EXPECT("days", o.book.setup.days, 0);
+    EXPECT("side 1 as it was", side1[0], before);
+    EXPECT("held as it was", held[0], 77);
+}
+
+static void refused_writing_leaves_the_buffer(void) {
+    uint8_t bytes[32];
+    memset(bytes, 0xEE, sizeof bytes);
+    ghendufika_message m = {.kind = 3};
+    EXPECT("kind 3", ghendufika_write_message(m, bytes, sizeof bytes).answer, 20);
+    m.kind = GHENDUFIKA_NULLIFICATION;
+    m.nullification.account = 64;
+    EXPECT("account 64", ghendufika_write_message(m, bytes, sizeof bytes).answer, 23);
+    m.nullification.account = 1;
+    EXPECT("3 bytes of room for 4", ghendufika_write_message(m, bytes, 3).answer, 24);
+    ghendufika_setup s = the_setup();
+    EXPECT("32 bytes of room for 35", ghendufika_write_setup(s, bytes, 32).answer, 24);
+    s.rows[2].account2 = 0;
+    EXPECT("equal accounts", ghendufika_write_setup(s, bytes, sizeof bytes).answer, 18);
+    s.days = 9;
+    EXPECT("nine days", ghendufika_write_setup(s, bytes, sizeof bytes).answer, 17);
+    for (size_t k = 0; k < sizeof bytes; k++) EXPECT("the buffer", bytes[k], 0xEE);
+}
+
+static void refused_questions(void) {
+    p2_agent_9_says_alike();
+    ghendufika_book wrong = book;
+    wrong.closed = 145; /* one more than 48 + 46 + 50 */
+    EXPECT("no sound book", ghendufika_mark(wrong, LENT, 0, 1, 0, 100, 1).answer, 1);
+    EXPECT("not held", ghendufika_mark(book, LENT, 0, 2, 0, 100, 1).answer, 25);
+    EXPECT("account 2 is not in the pair", ghendufika_mark(book, LENT, 0, 1, 2, 100, 1).answer, 15);
+    ghendufika_marked m = ghendufika_mark(book, LENT, 0, 1, 0, 100, 49);
+    EXPECT("period 49 of 48", m.answer, 16);
+    EXPECT("blank", m.bar, GHENDUFIKA_BLANK);
+    EXPECT("no figure", m.first, 0.0);
+    EXPECT("no sound book", ghendufika_row(wrong, LENT, 0, 1, 100, 1).answer, 1);
+    EXPECT("not held", ghendufika_row(book, LENT, 0, 2, 100, 1).answer, 25);
+    EXPECT("day 103", ghendufika_row(book, LENT, 0, 1, 103, 1).answer, 16);
+    ghendufika_row_place r = ghendufika_row(book, LENT, 0, 1, 100, 3);
+    EXPECT("side 3", r.answer, 16);
+    EXPECT("empty", r.length, 0);
+    EXPECT("no start", r.start, 0);
+    EXPECT("bytes that end", ghendufika_read_message((const uint8_t[]){0x80}, 1).answer, 19);
+}
+
+int main(void) {
+    p1_agent_7_says_5000();
+    p2_agent_9_says_alike();
+    p3_or_says_4999();
+    p4_the_largest_volumes();
+    p5_evergreen_by_one_agent();
+    p6_then_101_only();
+    p7_to_p8_who_may_say();
+    p9_a_closed_period_stays();
+    p10_to_p11_periods_and_days();
+    p12_to_p13_nullified();
+    sizes_and_fields();
+    a_setup_by_hand();
+    refused_openings_leave_the_tables();
+    refused_writing_leaves_the_buffer();
+    refused_questions();
+    printf("whole book: %lu answers as document 01 has them\n", checks);
+    return 0;
+}
