@@ -1,8 +1,8 @@
 -- Where the day's row lies: the part there is meaning's row, and it is empty exactly on a refusal.
-use mathlib.Core.Bool.{Bool, not}
+use mathlib.Core.Bool.{not}
 use mathlib.Core.List.{List}
 use mathlib.Core.Logic.{_≢_}
-use mathlib.Core.Path.{_≡_, ap, _∙_}
+use mathlib.Core.Path.{_≡_, sym, ap, _∙_}
 use Prim.Native.Nat.{ℕ}
 use native.Mathlib.Omega.{arith}
 use lib.IntN.{ℤ}
@@ -29,6 +29,11 @@ module _ (b : Book) (held : List ℕ) (side1 side2 : List ℤ) (i D side : ℕ) 
   pub place-done : theAnswer ≡ 0 → thePlace ≡ record { answer = 0; start = start b held side1 side2 i D; length = long b held side1 side2 i D }
   unfolding rowPlace
   place-done e = rw e
+
+  -- what the code makes of the place that it found
+  pub place-at : (from n : ℕ) → theAnswer ≡ 0 → from ≡ start b held side1 side2 i D → n ≡ long b held side1 side2 i D
+      → _≡_ {A = RowPlace} (record { answer = 0; start = from; length = n }) thePlace
+  place-at from n e f l = rw (f, l) (sym (place-done e))
 
   pub part-is-row : partAt thePlace (tableOf side1 side2 side) ≡ row (before b held side1 side2 i D) i D side
   unfolding rowPlace row

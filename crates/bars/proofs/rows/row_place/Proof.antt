@@ -1,13 +1,12 @@
 -- Past the refusals the identifier has its slot and the book its day, so the place is the one that the definition names.
 use borrow.Author.Needs.{needs}
-use mathlib.Core.Path.{_≡_, sym, ap₂, _∙_}
+use mathlib.Core.Path.{_≡_, sym, _∙_}
 use Prim.Native.Nat.{ℕ, _<_}
 use native.Mathlib.Omega.{arith}
 use denote.Ref.{now}
 use Rattle.meaning.specs.Ledgers.{identifierOf}
-use Rattle.bars.specs.declared.RowPlace.{RowPlace}
-use Rattle.bars.proofs.RowLaws.{start, long, rowAnswer, Shown, shown, slot-few}
-use Rattle.bars.proofs.PlaceLaws.{Placed, placed, place-refused, place-done}
+use Rattle.bars.proofs.RowLaws.{start, rowAnswer, Shown, shown, slot-few}
+use Rattle.bars.proofs.PlaceLaws.{placed, place-refused, place-at}
 use Rattle.bars.proofs.rows.row_place.Statement.{statement}
 use Rattle.bars.proofs.rows.row_place.Tie as tie
 
@@ -21,14 +20,8 @@ module _ (s : tie.Start) where
   abbrev theStart : ℕ
   theStart = start (s .args .b) (now (s .args .held)) (now (s .args .side1)) (now (s .args .side2)) identifier (s .args .day)
 
-  abbrev theLength : ℕ
-  theLength = long (s .args .b) (now (s .args .held)) (now (s .args .side1)) (now (s .args .side2)) identifier (s .args .day)
-
   abbrev Asked : Type 0
   Asked = Shown (s .args .b) (now (s .args .held)) (now (s .args .side1)) (now (s .args .side2)) identifier (s .args .day) (s .args .side)
-
-  abbrev Promised : RowPlace → Type 0
-  Promised = Placed (s .args .b) (now (s .args .held)) (now (s .args .side1)) (now (s .args .side2)) identifier (s .args .day) (s .args .side)
 
 refusal-is : (c : tie.After-row-refusal) → c .row-refusal .result ≡ theAnswer (c .before .before)
 refusal-is c = c .row-refusal .ensures
@@ -77,9 +70,10 @@ returns-2 c =
     let s = found .before .before .before .before .before in
     let a = s .args in
     let begins : found .index-of .result ≡ theStart s = rw (found .before .slot-of .ensures) at (found .index-of .ensures) in
-    let done = place-done (a .b) (now (a .held)) (now (a .side1)) (now (a .side2)) (identifier s) (a .day) (a .side) (allowed (found .before .before)) in
-    placed (a .b) (now (a .held)) (now (a .side1)) (now (a .side2)) (identifier s) (a .day) (a .side) _
-    (rw (begins, c .periods-on .ensures) (sym done))
+    let from = found .index-of .result in
+    let long = c .periods-on .result in
+    placed (a .b) (now (a .held)) (now (a .side1)) (now (a .side2)) (identifier s) (a .day) (a .side) (record { answer = 0; start = from; length = long })
+    (place-at (a .b) (now (a .held)) (now (a .side1)) (now (a .side2)) (identifier s) (a .day) (a .side) from long (allowed (found .before .before)) begins (c .periods-on .ensures))
 
 pub row-place-spec : {M : Type 1} → statement M
 row-place-spec =
