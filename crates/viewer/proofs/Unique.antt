@@ -24,8 +24,6 @@ use Rattle.bars.proofs.PlaceLaws.{Placed}
 use Rattle.viewer.specs.Questions.{fieldIn}
 use Rattle.viewer.specs.Numbers.{markNumbers}
 use Rattle.viewer.specs.declared.MarkNumbers.{MarkNumbers}
-use Rattle.viewer.specs.declared.OpenedPacked.{OpenedPacked}
-use Rattle.viewer.proofs.OpeningLaws.{OpensPacked}
 
 -- ---- about message bytes
 
@@ -56,11 +54,6 @@ WritesSetup s out r left = (r ≡ setupWritten (writeSetup (setupOf s) out)) × 
 pub unique-write-setup : (s : Setup) (out : List ℕ) (r r′ : SetupWritten) (left left′ : List ℕ)
     → WritesSetup s out r left → WritesSetup s out r′ left′ → (r ≡ r′) × (left ≡ left′)
 unique-write-setup s out r r′ left left′ p q = (one-outcome (p .0) (q .0), one-outcome (p .1) (q .1))
-
-pub unique-open-packed : (bytes held : List ℕ) (side1 side2 : List ℤ) (r r′ : OpenedPacked) (h h′ : List ℕ) (l1 l1′ l2 l2′ : List ℤ)
-    → OpensPacked bytes held side1 side2 r h l1 l2 → OpensPacked bytes held side1 side2 r′ h′ l1′ l2′ → (r ≡ r′) × (h ≡ h′) × (l1 ≡ l1′) × (l2 ≡ l2′)
-unique-open-packed bytes held side1 side2 r r′ h h′ l1 l1′ l2 l2′ p q =
-    (one-outcome (p .0) (q .0), one-outcome (p .1) (q .1), one-outcome (p .2) (q .2), one-outcome (p .3) (q .3))
 
 -- ---- what is shown of an identifier
 

@@ -1,4 +1,3 @@
 -- What the C viewer's questions mean.
 pub mod Questions
-pub mod Opening
 pub mod Numbers

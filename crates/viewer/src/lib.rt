@@ -9,14 +9,6 @@ ghost use Rattle.words.specs.Rules.{answer};
 ghost use Rattle.meaning.specs.PackedMessages.{readingRules, readMessage};
 ghost use Rattle.viewer.specs.Questions.{notificationField, entryField, nullificationField, messageField, fieldIn};
 
-// With a refusal the length is 0 and the book all zero.
-#[repr(C)]
-pub struct OpenedPacked {
-    pub answer: u8,
-    pub length: usize,
-    pub book: book::Book,
-}
-
 // `bar` is the number of the mark's case: 0 Blank, 1 OneSide, 2 Agreed, 3 Disagreed; a figure that the case does not have is positive zero. With a
 // refusal the mark is blank.
 #[repr(C)]

@@ -1,14 +1,12 @@
 // Packed bytes from C: a message by value out of bytes and into them, a setup into bytes, and a book opened from them. What a function gives on a
 // refusal is what the function that it calls gives.
-use crate::OpenedPacked;
 ghost use mathlib.Core.Path.{_≡_};
 ghost use lib.ListN.{length};
 ghost use Rattle.meaning.specs.PackedMessages.{readMessage, writeMessage};
 ghost use Rattle.meaning.specs.PackedSetups.{readSetup, writeSetup};
 ghost use Rattle.messages.specs.Structs.{messageOf, messageRead, messageWritten};
 ghost use Rattle.setups.specs.Structs.{setupOf, setupWritten};
-ghost use Rattle.book.specs.Answers.{heldOpened, sideOpened};
-ghost use Rattle.viewer.specs.Opening.{openedPacked};
+ghost use Rattle.book.specs.Answers.{openedPacked, heldOpened, sideOpened};
 
 #[no_mangle]
 pub extern "C" fn ghendufika_read_message(bytes: &[u8]) -> messages::MessageRead
@@ -34,25 +32,16 @@ pub extern "C" fn ghendufika_write_setup(s: setups::Setup, out: &mut [u8]) -> se
     setups::writing::write_setup(s, out)
 }
 
-// A refused setup reads as all zero, which opening refuses too and so leaves the tables alone; one that was read is always opened.
 #[no_mangle]
 pub extern "C" fn ghendufika_open_packed(
     bytes: &[u8],
     held: &mut [u32],
     side1: &mut [i32],
     side2: &mut [i32],
-) -> OpenedPacked
+) -> book::OpenedPacked
     ensures { λ r. do
       let read = readSetup (now (bytes .entry)) (length (now (held .entry))) (length (now (side1 .entry))) (length (now (side2 .entry)))
       ⌜ (r ≡ openedPacked read) × (now (held .exit) ≡ heldOpened (read .answer) (now (held .entry))) × (now (side1 .exit) ≡ sideOpened (read .answer) (now (side1 .entry))) × (now (side2 .exit) ≡ sideOpened (read .answer) (now (side2 .entry))) ⌝ }
 {
-    let read = setups::reading::read_setup(bytes, held.len(), side1.len(), side2.len());
-    let setup = read.setup;
-    let opened = book::opening::open(setup, held, side1, side2);
-    let book = opened.book;
-    OpenedPacked {
-        answer: read.answer,
-        length: read.length,
-        book: book,
-    }
+    book::opening::open_packed(bytes, held, side1, side2)
 }
