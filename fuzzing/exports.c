@@ -25,22 +25,18 @@ struct seen seen_row_refusal = {.name = "row_refusal", .can_come = "0 1 16 25"};
 struct seen seen_day_marks = {.name = "day_marks", .can_come = "0 1 15 16 24 25"};
 struct seen seen_case = {.name = "day_marks, mark: case", .can_come = "0 1 2 3"};
 
-#ifdef GHENDUFIKA_MOST_MESSAGE_BYTES
 struct seen seen_read_message = {.name = "read_message", .can_come = "0 19 20 21 22"};
 struct seen seen_write_message = {.name = "write_message", .can_come = "0 20 23 24"};
 struct seen seen_write_setup = {.name = "write_setup", .can_come = "0 17 18 24", .cannot = "23 (what passes 17 and 18 fits its fields)"};
 struct seen seen_open_packed = {.name = "open_packed", .can_come = "0 17 18 19 22"};
 struct seen seen_mark = {.name = "mark", .can_come = "0 1 15 16 25"};
 struct seen seen_row = {.name = "row", .can_come = "0 1 16 25"};
-#endif
 
 void expect_numbers(void) {
     struct seen *rows[] = {&seen_message_refusal, &seen_message_length, &seen_message_field, &seen_read_setup, &seen_open, &seen_is_sound,
                            &seen_close_gate, &seen_notify, &seen_kind, &seen_nullify, &seen_apply, &seen_apply_all, &seen_run_answer, &seen_total,
                            &seen_day_totals, &seen_figures, &seen_row_refusal, &seen_day_marks, &seen_case,
-#ifdef GHENDUFIKA_MOST_MESSAGE_BYTES
                            &seen_read_message, &seen_write_message, &seen_write_setup, &seen_open_packed, &seen_mark, &seen_row,
-#endif
     };
     for (size_t k = 0; k < sizeof rows / sizeof rows[0]; k++) expect(rows[k]);
 }
@@ -65,14 +61,12 @@ static const struct {
     {4, try_figures},
     {5, try_row_refusal},
     {5, try_day_marks},
-#ifdef GHENDUFIKA_MOST_MESSAGE_BYTES
     {4, try_read_message},
     {5, try_write_message},
     {1, try_write_setup},
     {1, try_open_packed},
     {6, try_mark},
     {5, try_row},
-#endif
     {1, law_totals_of_all_accounts_come_to_zero},
     {1, law_two_accounts_see_negated_marks},
     {2, law_apply_is_questions_and_a_call_by_struct},

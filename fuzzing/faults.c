@@ -16,11 +16,9 @@ const char *const fault_names[] = {
     "run_loses_its_last_answer", "answer_past_the_run_is_written", "account_two_is_taken_for_account_one", "refused_total_is_one",
     "total_past_the_buffer_is_written", "day_of_50_loses_its_last_total", "net_is_the_difference_of_two_floats", "side_three_has_a_row",
     "zero_is_negative_zero", "two_figures_in_the_other_order", "third_buffer_is_not_tested",
-#ifdef GHENDUFIKA_MOST_MESSAGE_BYTES
     "entry_past_the_count_is_read", "byte_behind_a_written_message_is_changed", "refused_writing_changes_the_buffer", "period_64_is_written",
     "setup_is_written_with_padding_of_ones", "refused_packed_opening_takes_a_slot", "mark_is_shown_as_account_ones", "refused_mark_is_one_side",
     "row_starts_a_place_late", "refused_row_has_a_length",
-#endif
     NULL
 };
 
@@ -152,7 +150,6 @@ uint8_t faulty_day_marks(ghendufika_book book, const uint32_t *held, size_t slot
     return answer;
 }
 
-#ifdef GHENDUFIKA_MOST_MESSAGE_BYTES /* the header of the whole book */
 
 ghendufika_message_read faulty_read_message(const uint8_t *bytes, size_t length) {
     ghendufika_message_read read = ghendufika_read_message(bytes, length);
@@ -195,4 +192,3 @@ ghendufika_row_place faulty_row(ghendufika_book book, const uint32_t *held, size
     return place;
 }
 
-#endif

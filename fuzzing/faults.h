@@ -24,14 +24,12 @@ ghendufika_figured faulty_figures(ghendufika_book book, const uint32_t *held, si
 uint8_t faulty_row_refusal(ghendufika_book book, const uint32_t *held, size_t slots, const int32_t *side1, size_t lent1, const int32_t *side2, size_t lent2, uint8_t originator, uint16_t reference, uint16_t day, uint8_t side);
 uint8_t faulty_day_marks(ghendufika_book book, const uint32_t *held, size_t slots, const int32_t *side1, size_t lent1, const int32_t *side2, size_t lent2, uint8_t originator, uint16_t reference, uint8_t account, uint16_t day, uint8_t *cases, size_t case_room, double *firsts, size_t first_room, double *seconds, size_t second_room);
 
-#ifdef GHENDUFIKA_MOST_MESSAGE_BYTES /* the header of the whole book */
 ghendufika_message_read faulty_read_message(const uint8_t *bytes, size_t length);
 ghendufika_message_written faulty_write_message(ghendufika_message message, uint8_t *out, size_t room);
 ghendufika_setup_written faulty_write_setup(ghendufika_setup setup, uint8_t *out, size_t room);
 ghendufika_opened_packed faulty_open_packed(const uint8_t *bytes, size_t length, uint32_t *held, size_t slots, int32_t *side1, size_t lent1, int32_t *side2, size_t lent2);
 ghendufika_marked faulty_mark(ghendufika_book book, const uint32_t *held, size_t slots, const int32_t *side1, size_t lent1, const int32_t *side2, size_t lent2, uint8_t originator, uint16_t reference, uint8_t account, uint16_t day, uint8_t period);
 ghendufika_row_place faulty_row(ghendufika_book book, const uint32_t *held, size_t slots, const int32_t *side1, size_t lent1, const int32_t *side2, size_t lent2, uint8_t originator, uint16_t reference, uint16_t day, uint8_t side);
-#endif
 
 #ifndef FAULTS_THEMSELVES
 #define ghendufika_message_refusal faulty_message_refusal

@@ -10,7 +10,6 @@
 
 #include <string.h>
 
-#ifdef GHENDUFIKA_MOST_MESSAGE_BYTES /* the header of the whole book */
 
 static uint8_t made[MOST_BYTES];
 static const ghendufika_book no_book;
@@ -208,4 +207,3 @@ void try_open_packed(void) {
     check_tables(opened.answer);
 }
 
-#endif

@@ -149,7 +149,6 @@ void try_day_marks(void) {
     if (answer == DONE) check_day_marks(periods);
 }
 
-#ifdef GHENDUFIKA_MOST_MESSAGE_BYTES /* the header of the whole book */
 
 void try_mark(void) {
     struct mark mark;
@@ -187,4 +186,3 @@ void try_row(void) {
     else must(place.start == 0 && place.length == 0, "a refused row is empty");
 }
 
-#endif
