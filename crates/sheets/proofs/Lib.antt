@@ -6,3 +6,4 @@ pub mod TurnLaws
 pub mod FirstLaws
 pub mod KeptLaws
 pub mod Room
+pub mod Unique
