@@ -1,0 +1,331 @@
+/* The proved code against its twin in C, in one run: `bench` prints nanoseconds and ratios, `bench ratios` ratios alone, for an emulator, whose times say
+ * nothing. Every round does the same work with both, in turns, and holds what they answered and left in the tables against each other: a difference
+ * ends the program. The best of the rounds counts, since noise only adds. */
+#include "inputs.h"
+#include "twin.h"
+
+#include <stdio.h>
+#include <stdlib.h>
+#include <string.h>
+#include <time.h>
+
+enum { MOST_PLACES = GHENDUFIKA_MOST_SLOTS * GHENDUFIKA_MOST_DAYS * GHENDUFIKA_PLACES_A_DAY, MOST_MESSAGES = 10000, MOST_RESULTS = 256 };
+
+static int rounds = 60;
+static bool ratios_only;
+
+/* ---- who does the work */
+
+typedef struct {
+    uint8_t (*message_refusal)(const uint8_t *, size_t);
+    size_t (*message_length)(const uint8_t *, size_t);
+    int64_t (*message_field)(const uint8_t *, size_t, uint32_t);
+    bool (*is_sound)(ghendufika_book, const uint32_t *, size_t, const int32_t *, size_t, const int32_t *, size_t);
+    ghendufika_applied (*apply)(ghendufika_book, const uint8_t *, size_t, uint32_t *, size_t, int32_t *, size_t, int32_t *, size_t);
+    ghendufika_applied_all (*apply_all)(ghendufika_book, const uint8_t *, size_t, uint32_t *, size_t, int32_t *, size_t, int32_t *, size_t, uint8_t *, size_t);
+    ghendufika_totalled (*total)(ghendufika_book, const uint32_t *, size_t, const int32_t *, size_t, const int32_t *, size_t, uint8_t, uint16_t, uint8_t);
+    uint8_t (*day_totals)(ghendufika_book, const uint32_t *, size_t, const int32_t *, size_t, const int32_t *, size_t, uint8_t, uint16_t, int64_t *, size_t);
+    ghendufika_figured (*figures)(ghendufika_book, const uint32_t *, size_t, const int32_t *, size_t, const int32_t *, size_t, uint8_t, uint16_t);
+} calls;
+
+static const calls proved = {ghendufika_message_refusal, ghendufika_message_length, ghendufika_message_field, ghendufika_is_sound, ghendufika_apply,
+                             ghendufika_apply_all,       ghendufika_total,          ghendufika_day_totals,    ghendufika_figures};
+static const calls plain = {twin_message_refusal, twin_message_length, twin_message_field, twin_is_sound, twin_apply, twin_apply_all, twin_total, twin_day_totals, twin_figures};
+
+/* One of the two: its calls, its tables and what it was answered. */
+typedef struct {
+    const calls *with;
+    ghendufika_book book;
+    uint32_t held[GHENDUFIKA_MOST_SLOTS];
+    int32_t side1[MOST_PLACES], side2[MOST_PLACES];
+    uint8_t answers[MOST_MESSAGES];
+    int64_t results[MOST_RESULTS];
+    double figures[3];
+} worker;
+
+static worker ours = {.with = &proved}, twin = {.with = &plain}, fresh; /* `fresh` is how both begin a round */
+static size_t slots, lent;
+static run_of_messages run;
+
+#define TABLES(w) (w)->held, slots, (w)->side1, lent, (w)->side2, lent
+
+static void give_up(const char *why) {
+    fprintf(stderr, "bench: %s\n", why);
+    exit(1);
+}
+
+/* ---- the same in both */
+
+static bool same_row(const ghendufika_authorisation *a, const ghendufika_authorisation *b) {
+    return a->agent1 == b->agent1 && a->agent2 == b->agent2 && a->account1 == b->account1 && a->account2 == b->account2 && a->key == b->key && a->first == b->first &&
+           a->last == b->last && a->amendment == b->amendment;
+}
+
+/* Field by field, for bytes between fields may differ. */
+static bool same_book(const ghendufika_book *a, const ghendufika_book *b) {
+    const ghendufika_setup *s = &a->setup, *t = &b->setup;
+    bool same = a->closed == b->closed && s->first == t->first && s->days == t->days && s->accounts == t->accounts && s->authorisations == t->authorisations;
+    for (int d = 0; d < 8; d++) same = same && s->codes[d] == t->codes[d];
+    for (int k = 0; k < 64; k++) same = same && same_row(&s->rows[k], &t->rows[k]);
+    return same;
+}
+
+static void hold_against_each_other(const char *job) {
+    bool same = same_book(&ours.book, &twin.book) && memcmp(ours.held, twin.held, slots * sizeof *ours.held) == 0 &&
+                memcmp(ours.side1, twin.side1, lent * sizeof *ours.side1) == 0 && memcmp(ours.side2, twin.side2, lent * sizeof *ours.side2) == 0 &&
+                memcmp(ours.answers, twin.answers, sizeof ours.answers) == 0 && memcmp(ours.results, twin.results, sizeof ours.results) == 0 &&
+                memcmp(ours.figures, twin.figures, sizeof ours.figures) == 0;
+    if (same) return;
+    fprintf(stderr, "bench: %s: ", job);
+    give_up("the two differ, so their times say nothing");
+}
+
+static void begin(worker *w) {
+    w->book = fresh.book;
+    memcpy(w->held, fresh.held, slots * sizeof *w->held);
+    memcpy(w->side1, fresh.side1, lent * sizeof *w->side1);
+    memcpy(w->side2, fresh.side2, lent * sizeof *w->side2);
+}
+
+/* ---- jobs */
+
+static void ask_refusals(worker *w) {
+    size_t at = 0;
+    for (size_t k = 0; k < run.messages; k++) {
+        w->answers[k] = w->with->message_refusal(run.bytes + at, run.length - at);
+        at += run.length / run.messages; /* all messages of this run are of one length */
+    }
+}
+
+static void ask_lengths(worker *w) {
+    size_t at = 0;
+    for (size_t k = 0; k < run.messages; k++) {
+        size_t length = w->with->message_length(run.bytes + at, run.length - at);
+        w->answers[k] = (uint8_t)length;
+        at += length;
+    }
+}
+
+/* Its kind, its head and its 50 periods and volumes, each asked apart. */
+static void ask_all_fields(worker *w) {
+    for (uint32_t field = 0; field <= GHENDUFIKA_FIELD_COUNT; field++) w->results[field] = w->with->message_field(run.bytes, run.length, field);
+    for (uint32_t entry = 0; entry < 50; entry++) {
+        w->results[100 + entry] = w->with->message_field(run.bytes, run.length, GHENDUFIKA_FIELD_PERIOD(entry));
+        w->results[200 + entry] = w->with->message_field(run.bytes, run.length, GHENDUFIKA_FIELD_VOLUME(entry));
+    }
+}
+
+static void apply_all(worker *w) {
+    ghendufika_applied_all done = w->with->apply_all(w->book, run.bytes, run.length, TABLES(w), w->answers, MOST_MESSAGES);
+    if (done.answer != 0 || done.done != run.messages || done.used != run.length) give_up("a run was not done to its end");
+    w->book = done.book;
+}
+
+static void apply_one_by_one(worker *w) {
+    size_t at = 0;
+    for (size_t k = 0; k < run.messages; k++) {
+        ghendufika_applied done = w->with->apply(w->book, run.bytes + at, run.length - at, TABLES(w));
+        w->answers[k] = done.answer;
+        w->book = done.book;
+        at += done.length;
+    }
+}
+
+static void ask_soundness(worker *w) {
+    w->results[0] = w->with->is_sound(w->book, TABLES(w));
+    if (!w->results[0]) give_up("the book is not sound");
+}
+
+static void ask_total(worker *w) {
+    ghendufika_totalled total = w->with->total(w->book, TABLES(w), 1, w->book.setup.first, 30);
+    w->answers[0] = total.answer;
+    w->results[0] = total.kwh;
+}
+
+static void ask_day_totals(worker *w) { w->answers[0] = w->with->day_totals(w->book, TABLES(w), 1, w->book.setup.first, w->results, 50); }
+
+static void ask_figures(worker *w) {
+    ghendufika_figured figured = w->with->figures(w->book, TABLES(w), 1, w->book.setup.first);
+    w->answers[0] = figured.answer;
+    w->figures[0] = figured.day.sold;
+    w->figures[1] = figured.day.bought;
+    w->figures[2] = figured.day.net;
+}
+
+/* What any look at every place of the tables costs at least: both sides read once, in order. */
+static void read_tables(worker *w) {
+    uint32_t all = 0;
+    for (size_t k = 0; k < lent; k++) all |= (uint32_t)(w->side1[k] ^ w->side2[k]);
+    w->results[0] = all;
+}
+
+/* ---- measuring */
+
+static double seconds(void) {
+    struct timespec now;
+    clock_gettime(CLOCK_MONOTONIC, &now);
+    return (double)now.tv_sec + 1e-9 * (double)now.tv_nsec;
+}
+
+static double time_of(void (*job)(worker *), worker *w) {
+    begin(w);
+    double start = seconds();
+    job(w);
+    return seconds() - start;
+}
+
+static double lesser(double a, double b) { return a < b ? a : b; }
+
+typedef struct {
+    double ours, twin; /* nanoseconds for each of the job's units */
+} measured;
+
+/* A round of each first, which is not counted: it brings code and tables into the caches. */
+static measured measure(const char *name, void (*job)(worker *), size_t units) {
+    measured best = {1e9, 1e9};
+    time_of(job, &ours);
+    time_of(job, &twin);
+    for (int k = 0; k < rounds; k++) {
+        best.ours = lesser(best.ours, time_of(job, &ours));
+        best.twin = lesser(best.twin, time_of(job, &twin));
+        hold_against_each_other(name);
+    }
+    return (measured){1e9 * best.ours / (double)units, 1e9 * best.twin / (double)units};
+}
+
+static double measure_plain_read(void) {
+    double best = 1e9;
+    time_of(read_tables, &twin);
+    for (int k = 0; k < rounds; k++) best = lesser(best, time_of(read_tables, &twin));
+    return 1e9 * best;
+}
+
+/* ---- printing */
+
+static void print_times(double first, double second) {
+    if (ratios_only) printf("%12s%12s", "-", "-");
+    else printf("%12.1f%12.1f", first, second);
+    printf("%9.2f\n", first / second);
+}
+
+static void print_job(const char *name, void (*job)(worker *), size_t units) {
+    measured m = measure(name, job, units);
+    printf("%-52s", name);
+    print_times(m.ours, m.twin);
+}
+
+static void print_growth(const char *name, size_t size, void (*job)(worker *), size_t units) {
+    char line[64];
+    snprintf(line, sizeof line, "%s, %zu", name, size);
+    print_job(line, job, units);
+}
+
+/* ---- books and runs */
+
+static void take(run_of_messages next) {
+    free(run.bytes);
+    run = next;
+}
+
+/* Both begin with this book, opened and, where there is something to fill it, filled. */
+static void take_book(ghendufika_setup setup, size_t its_slots, bool filled) {
+    slots = its_slots;
+    lent = slots * setup.days * GHENDUFIKA_PLACES_A_DAY;
+    ghendufika_opened opened = ghendufika_open(setup, TABLES(&fresh));
+    if (opened.answer != 0) give_up("the setup was refused");
+    fresh.book = opened.book;
+    if (!filled) return;
+    take(filling(&setup, slots));
+    fresh.with = &proved;
+    apply_all(&fresh);
+}
+
+static void take_traded_book(size_t its_slots, unsigned days, size_t messages) {
+    ghendufika_setup setup = setup_of(its_slots, days);
+    take_book(setup, its_slots, true);
+    take(trading(&setup, slots, messages));
+}
+
+/* What a run is made of, as the twin sees it. */
+static void print_mixture(const char *name) {
+    memset(twin_accepted, 0, sizeof twin_accepted);
+    begin(&twin);
+    apply_all(&twin);
+    printf("%s: %zu messages in %zu bytes; accepted %zu initial, %zu replacements, %zu additional; %d gates closed\n", name, run.messages, run.length, twin_accepted[1],
+           twin_accepted[2], twin_accepted[3], twin.book.closed - fresh.book.closed);
+}
+
+/* ---- the tables that are printed */
+
+static void print_reading(void) {
+    ghendufika_setup setup = setup_of(4, 1);
+    setup.codes[0] = 2; /* a day of 50 periods */
+    take_book(setup, 4, false);
+    take(full_notifications(&setup, 1000));
+    print_job("refusal of a 50-entry notification", ask_refusals, run.messages);
+    print_job("its length", ask_lengths, run.messages);
+    print_job("all its 109 fields, each asked apart", ask_all_fields, 1);
+    print_job("1000 such, read and applied to 4 slots, each", apply_all, run.messages);
+}
+
+static void print_runs(void) {
+    take_traded_book(16, 2, 1000);
+    print_job("1000 messages, 16 slots of 2 days, each", apply_all, run.messages);
+    take_traded_book(256, 8, 1000);
+    print_job("1000 messages, 256 slots of 8 days, each", apply_all, run.messages);
+    take_traded_book(256, 8, MOST_MESSAGES);
+    print_job("10000 messages, 256 slots of 8 days, each", apply_all, run.messages);
+}
+
+static void print_questions(void) {
+    print_job("soundness of the full book", ask_soundness, 1);
+    measured sound = measure("soundness", ask_soundness, 1);
+    double read = measure_plain_read();
+    printf("%-52s", "  against a plain read of both sides");
+    print_times(sound.ours, read);
+    printf("%-52s", "  the twin's, against that plain read");
+    print_times(sound.twin, read);
+    print_job("a total of the full book", ask_total, 1);
+    print_job("a day's totals of the full book", ask_day_totals, 1);
+    print_job("a day's figures of the full book", ask_figures, 1);
+}
+
+static void print_all_growth(void) {
+    static const size_t sizes[] = {1, 16, 64, 256}, lengths[] = {100, 1000, 10000};
+    for (int k = 0; k < 4; k++) {
+        take_traded_book(sizes[k], 8, 100);
+        print_growth("soundness by slots, 8 days", sizes[k], ask_soundness, 1);
+    }
+    for (int k = 0; k < 4; k++) {
+        take_traded_book(sizes[k], 8, 1000);
+        print_growth("a message of a run of 1000, by slots", sizes[k], apply_all, run.messages);
+    }
+    for (int k = 0; k < 3; k++) {
+        take_traded_book(256, 8, lengths[k]);
+        print_growth("a message of a run on 256 slots, by the run", lengths[k], apply_all, run.messages);
+    }
+    for (int k = 0; k < 4; k++) {
+        take_traded_book(sizes[k], 8, 100);
+        print_growth("a message applied by itself, by slots", sizes[k], apply_one_by_one, run.messages);
+    }
+}
+
+int main(int argc, char **argv) {
+    ratios_only = argc > 1 && strcmp(argv[1], "ratios") == 0;
+    if (ratios_only) rounds = 5;
+    printf("%-52s%12s%12s%9s\n", "job", "ours ns", "C ns", "ratio");
+    print_reading();
+    print_runs();
+    print_questions();
+    printf("\n%-52s%12s%12s%9s\n", "growth", "ours ns", "C ns", "ratio");
+    print_all_growth();
+    printf("\n");
+    take_traded_book(16, 2, 1000);
+    print_mixture("16 slots of 2 days");
+    take_traded_book(256, 8, 1000);
+    print_mixture("256 slots of 8 days");
+    take_traded_book(256, 8, MOST_MESSAGES);
+    print_mixture("256 slots of 8 days");
+    free(run.bytes);
+    return 0;
+}
