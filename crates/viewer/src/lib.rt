@@ -103,8 +103,7 @@ pub extern "C" fn ghendufika_message_refusal(bytes: &[u8]) -> u8
 pub extern "C" fn ghendufika_message_length(bytes: &[u8]) -> usize
     ensures { λ r. ⌜ r ≡ readMessage (now (bytes .entry)) .length ⌝ }
 {
-    let read = messages::reading::read_message(bytes);
-    read.length
+    messages::reading::message_length(bytes)
 }
 
 // One field of the message, 0 with a refusal.
