@@ -193,13 +193,18 @@ static bool all_blank(const int32_t *places, size_t count) {
     return stated == 0;
 }
 
+/* Nothing stands past a day's length. Only its last four places can be past it. */
+static bool ends_are_blank(const ghendufika_setup *s, const int32_t *places) {
+    uint32_t stated = 0;
+    for (unsigned d = 0; d < s->days; d++)
+        for (unsigned p = PLACES - 4; p < PLACES; p++) stated |= p < PERIODS[s->codes[d]] ? 0 : (uint32_t)(places[d * PLACES + p] ^ MARK);
+    return stated == 0;
+}
+
 static bool slot_is_right(const ghendufika_setup *s, const int32_t *places, bool is_held) {
     size_t count = (size_t)s->days * PLACES;
     if (!is_held) return all_blank(places, count);
-    for (unsigned d = 0; d < s->days; d++)
-        for (unsigned p = PERIODS[s->codes[d]]; p < PLACES; p++)
-            if (places[d * PLACES + p] != MARK) return false;
-    return all_in_range(places, count);
+    return all_in_range(places, count) && ends_are_blank(s, places);
 }
 
 static bool sides_are_right(const ghendufika_setup *s, const uint32_t *held, size_t slots, const int32_t *side1, const int32_t *side2) {
