@@ -3,14 +3,16 @@ use book::Book;
 use book::state;
 ghost use mathlib.Core.List.{[]};
 ghost use mathlib.Core.Path.{_≡_};
-ghost use Prim.Native.Nat.{_-_};
-ghost use lib.ListN.{length};
+ghost use Prim.Native.Nat.{_-_, _/_, min};
+ghost use lib.ListN.{length, getD};
 ghost use Rattle.words.specs.Below.{someBelow};
 ghost use Rattle.meaning.specs.Time.{gatesBefore};
+ghost use Rattle.meaning.specs.Authorisations.{rowAt};
 ghost use Rattle.meaning.specs.Ledgers.{one, two};
 ghost use Rattle.meaning.specs.Messages.{writes};
 ghost use Rattle.meaning.specs.Notifications.{isReplacement, isOther, overlaps, kindOf, kindNumber};
 ghost use Rattle.messages.specs.Structs.{notificationOf};
+ghost use Rattle.setups.specs.Structs.{noAuthorisation, rowOf};
 ghost use Rattle.book.specs.Structs.{timeIn, rowsIn, bookOf};
 ghost use Rattle.kinds.specs.Kinds.{Fits, Inside, placeOf, statesPlace, periodsFrom, periodsWithin, SlotInside, fromFirst, fits, kindAnswer};
 
@@ -19,6 +21,10 @@ const INITIAL: u8 = 1;
 const REPLACEMENT: u8 = 2;
 
 const ADDITIONAL: u8 = 3;
+
+const MOST_ROWS: u32 = 64;
+
+const LAST_ROW: usize = 63;
 
 // The notification writes side 1: it is sent by agent 1.
 pub fn writes_side1(b: Book, n: messages::Notification) -> bool
@@ -36,8 +42,50 @@ pub fn writes_side2(b: Book, n: messages::Notification) -> bool
     n.agent == row.agent2
 }
 
-// A slot, by its entry, holds another identifier of the same account 1 and account 2.
-fn is_other(b: Book, n: messages::Notification, entry: u32) -> bool
+// Where the authorisations would have the originating one of the identifier that an entry of `held` holds; a place of the array in any case.
+fn origin_place(entry: u32) -> usize
+    ensures { λ r. ⌜ r ≡ min ((entry - 1) / 65536) 63 ⌝ }
+{
+    if entry == 0 {
+        return 0;
+    }
+    let k = ((entry - 1) / ledger::REFERENCES) as usize;
+    if k < LAST_ROW {
+        return k;
+    }
+    LAST_ROW
+}
+
+// The authorisation of a number, where the array has `row` at that place; all zero where the book has none.
+fn known_row(b: Book, k: u32, row: setups::Authorisation) -> setups::Authorisation
+    requires { ⌜ row ≡ getD (b .setup .rows) (min k 63) noAuthorisation ⌝ }
+    ensures { λ r. ⌜ rowOf r ≡ rowAt (rowsIn (b .setup)) k ⌝ }
+{
+    if (k < b.setup.authorisations as u32) & (k < MOST_ROWS) {
+        return row;
+    }
+    setups::Authorisation {
+        agent1: 0,
+        agent2: 0,
+        account1: 0,
+        account2: 0,
+        key: 0,
+        first: 0,
+        last: 0,
+        amendment: 0,
+    }
+}
+
+// A slot, by its entry, holds another identifier of the same account 1 and account 2. Both rows are handed over, since reading one out of a book copies
+// all of them.
+fn is_other(
+    b: Book,
+    n: messages::Notification,
+    entry: u32,
+    row: setups::Authorisation,
+    mine: setups::Authorisation,
+) -> bool
+    requires { ⌜ (row ≡ getD (b .setup .rows) (min ((entry - 1) / 65536) 63) noAuthorisation) × (rowOf mine ≡ rowAt (rowsIn (b .setup)) (n .authorisation)) ⌝ }
     ensures { λ r. ⌜ r ≡ isOther (bookOf b [] [] []) (notificationOf n) entry ⌝ }
 {
     if entry == 0 {
@@ -45,8 +93,7 @@ fn is_other(b: Book, n: messages::Notification, entry: u32) -> bool
     }
     let identifier = entry - 1;
     let own = n.originator as u32 * ledger::REFERENCES + n.reference as u32;
-    let origin = state::row_of(b, identifier / ledger::REFERENCES);
-    let mine = state::row_of(b, n.authorisation as u32);
+    let origin = known_row(b, identifier / ledger::REFERENCES, row);
     (identifier != own) & ((origin.account1 == mine.account1) & (origin.account2 == mine.account2))
 }
 
@@ -118,10 +165,14 @@ fn is_overlapped(
 {
     let w1 = writes_side1(b, n);
     let w2 = writes_side2(b, n);
-    let days = b.setup.days;
+    let mine = state::row_of(b, n.authorisation as u32);
+    let setup = b.setup;
+    let days = setup.days;
     let mut found = false;
     'search: for s in 0..held.len() {
-        if is_other(b, n, held[s]) {
+        let entry = held[s];
+        let row = setup.rows[origin_place(entry)];
+        if is_other(b, n, entry, row, mine) {
             for d in 0..days {
                 let first = first_open(b, d);
                 let periods = periods_within(b, n.first, n.last, d);

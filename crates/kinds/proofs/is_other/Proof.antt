@@ -33,22 +33,16 @@ cast-own-2 c = search needs
 add-own : tie.Need-add-own
 add-own c = search needs
 
-row-of-requires : tie.Need-row-of-requires
-row-of-requires c κs = search needs
-
-cast-row-of : tie.Need-cast-row-of
-cast-row-of c = search needs
-
-row-of-requires-2 : tie.Need-row-of-requires-2
-row-of-requires-2 c κs = search needs
+known-row-requires : tie.Need-known-row-requires
+known-row-requires c κs = c .before .before .before .pre .0
 
 returns-2 : tie.Need-returns-2
 unfolding notificationOf originatorOf
 returns-2 c =
-    let s = c .before .before .before .before .before .before .before .before .before .before in
-    let a = s .args in
-    ap₂ (λ (o m : Authorisation). not ((a .entry - 1) =? (a .n .originator * 65536 + a .n .reference)) && sameAccounts o m) (c .before .before .before .before .before .before .row-of .ensures) (c .before .before .before .before .row-of2 .ensures)
-    ∙ sym (other-held (bookOf (a .b) [] [] []) (notificationOf (a .n)) (a .entry) (c .before .before .before .before .before .before .before .before .before .if1 .left))
+    let start = c .before .before .before .before .before .before .before .before in
+    let a = start .args in
+    ap₂ (λ (o m : Authorisation). not ((a .entry - 1) =? (a .n .originator * 65536 + a .n .reference)) && sameAccounts o m) (c .before .before .before .before .known-row .ensures) (start .pre .1)
+    ∙ sym (other-held (bookOf (a .b) [] [] []) (notificationOf (a .n)) (a .entry) (c .before .before .before .before .before .before .before .if1 .left))
 
 pub is-other-spec : {M : Type 1} → statement M
 is-other-spec =
@@ -60,7 +54,5 @@ is-other-spec =
     mul-own
     cast-own-2
     add-own
-    row-of-requires
-    cast-row-of
-    row-of-requires-2
+    known-row-requires
     returns-2)

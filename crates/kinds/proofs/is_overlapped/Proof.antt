@@ -12,6 +12,7 @@ use Rattle.laws.proofs.Below.{some-none, some-hit}
 use Rattle.meaning.specs.Time.{gatesBefore}
 use Rattle.meaning.specs.Notifications.{overlaps}
 use Rattle.messages.specs.Structs.{notificationOf}
+use Rattle.setups.specs.Structs.{noAuthorisation}
 use Rattle.setups.proofs.SetupHeld.{codes-own}
 use Rattle.book.specs.Structs.{bookOf, timeIn}
 use Rattle.kinds.specs.Kinds.{periodsWithin}
@@ -20,23 +21,23 @@ use Rattle.kinds.proofs.is_overlapped.Statement.{statement}
 use Rattle.kinds.proofs.is_overlapped.Tie as tie
 
 abbrev Inv-loop2 : tie.InvT-loop2
-Inv-loop2 b held side1 side2 n w1 w2 days found₀ s d first periods p₀ s-end found p =
+Inv-loop2 b held side1 side2 n w1 w2 mine setup days found₀ s entry d first periods p₀ s-end found p =
     (found ≡ false) × ((first ≤ p) × (someBelow p (onPeriod (bookOf b held side1 side2) (notificationOf n) s d) ≡ false))
 
 abbrev μ-loop2 : tie.MeasureT-loop2
-μ-loop2 b held side1 side2 n w1 w2 days found₀ s d first periods p₀ s-end found p = periods - p
+μ-loop2 b held side1 side2 n w1 w2 mine setup days found₀ s entry d first periods p₀ s-end found p = periods - p
 
 abbrev Inv-loop : tie.InvT-loop
-Inv-loop b held side1 side2 n w1 w2 days found₀ s d₀ s-end found d = (found ≡ false) × (someBelow d (onDay (bookOf b held side1 side2) (notificationOf n) s) ≡ false)
+Inv-loop b held side1 side2 n w1 w2 mine setup days found₀ s entry d₀ s-end found d = (found ≡ false) × (someBelow d (onDay (bookOf b held side1 side2) (notificationOf n) s) ≡ false)
 
 abbrev μ-loop : tie.MeasureT-loop
-μ-loop b held side1 side2 n w1 w2 days found₀ s d₀ s-end found d = days - d
+μ-loop b held side1 side2 n w1 w2 mine setup days found₀ s entry d₀ s-end found d = days - d
 
 abbrev Inv-search : tie.InvT-search
-Inv-search b held side1 side2 n w1 w2 days found₀ s₀ s-end found s = (found ≡ false) × (someBelow s (overlaps (bookOf b held side1 side2) (notificationOf n)) ≡ false)
+Inv-search b held side1 side2 n w1 w2 mine setup days found₀ s₀ s-end found s = (found ≡ false) × (someBelow s (overlaps (bookOf b held side1 side2) (notificationOf n)) ≡ false)
 
 abbrev μ-search : tie.MeasureT-search
-μ-search b held side1 side2 n w1 w2 days found₀ s₀ s-end found s = s-end - s
+μ-search b held side1 side2 n w1 w2 mine setup days found₀ s₀ s-end found s = s-end - s
 
 writes-side1-requires :
     tie.Need-writes-side1-requires Inv-loop2 μ-loop2 Inv-loop μ-loop Inv-search μ-search
@@ -46,22 +47,41 @@ writes-side2-requires :
     tie.Need-writes-side2-requires Inv-loop2 μ-loop2 Inv-loop μ-loop Inv-search μ-search
 writes-side2-requires c κs = search needs
 
+cast-row-of : tie.Need-cast-row-of Inv-loop2 μ-loop2 Inv-loop μ-loop Inv-search μ-search
+cast-row-of c = search needs
+
+row-of-requires : tie.Need-row-of-requires Inv-loop2 μ-loop2 Inv-loop μ-loop Inv-search μ-search
+row-of-requires c κs = search needs
+
 search-holds : tie.Need-search-holds Inv-loop2 μ-loop2 Inv-loop μ-loop Inv-search μ-search
 search-holds c = (refl, some-none _)
 
-mul-is-other : tie.Need-mul-is-other Inv-loop2 μ-loop2 Inv-loop μ-loop Inv-search μ-search
-mul-is-other c = omega arith
+mul-entry : tie.Need-mul-entry Inv-loop2 μ-loop2 Inv-loop μ-loop Inv-search μ-search
+mul-entry c = omega arith
 
-shared-slice-read-is-other :
-    tie.Need-shared-slice-read-is-other Inv-loop2 μ-loop2 Inv-loop μ-loop Inv-search μ-search
-shared-slice-read-is-other c = search needs
+shared-slice-read-entry :
+    tie.Need-shared-slice-read-entry Inv-loop2 μ-loop2 Inv-loop μ-loop Inv-search μ-search
+shared-slice-read-entry c = search needs
+
+origin-place-requires :
+    tie.Need-origin-place-requires Inv-loop2 μ-loop2 Inv-loop μ-loop Inv-search μ-search
+origin-place-requires c κs = search needs
+
+mul-row : tie.Need-mul-row Inv-loop2 μ-loop2 Inv-loop μ-loop Inv-search μ-search
+mul-row c = omega (arith, c .origin-place .ensures)
+
+element-copy-out-row :
+    tie.Need-element-copy-out-row Inv-loop2 μ-loop2 Inv-loop μ-loop Inv-search μ-search
+element-copy-out-row c = omega (arith, c .origin-place .ensures)
 
 is-other-requires :
     tie.Need-is-other-requires Inv-loop2 μ-loop2 Inv-loop μ-loop Inv-search μ-search
-is-other-requires c κs = search needs
+is-other-requires c κs =
+    let a = c .before .before .before .before .before .before .before .before .before .before .before .args in
+    (ap (λ (k : ℕ). getD (a .b .setup .rows) k noAuthorisation) (c .before .origin-place .ensures), c .before .before .before .before .before .before .row-of .ensures)
 
 loop-holds : tie.Need-loop-holds Inv-loop2 μ-loop2 Inv-loop μ-loop Inv-search μ-search
-loop-holds c = (c .before .before .before .before .search .inv .0, some-none _)
+loop-holds c = (c .before .before .before .before .before .before .search .inv .0, some-none _)
 
 first-open-requires :
     tie.Need-first-open-requires Inv-loop2 μ-loop2 Inv-loop μ-loop Inv-search μ-search
@@ -73,10 +93,10 @@ periods-within-requires c κs = search needs
 
 loop2-holds : tie.Need-loop2-holds Inv-loop2 μ-loop2 Inv-loop μ-loop Inv-search μ-search
 loop2-holds c =
-    let a = c .before .before .before .before .before .before .before .before .before .before .before .before .args in
+    let a = c .before .before .before .before .before .before .before .before .before .before .before .before .before .before .before .before .before .args in
     let m = bookOf (a .b) (now (a .held)) (now (a .side1)) (now (a .side2)) in
     let n = notificationOf (a .n) in
-    let s = c .before .before .before .before .before .before .before .before .search .s in
+    let s = c .before .before .before .before .before .before .before .before .before .before .search .s in
     let d = c .before .before .before .loop .d in
     (c .before .before .before .loop .inv .0, (omega arith, ap (λ (k : ℕ). someBelow k (onPeriod m n s d)) (c .before .first-open .ensures) ∙ closed-miss m n s d))
 
@@ -84,13 +104,13 @@ states-at-requires :
     tie.Need-states-at-requires Inv-loop2 μ-loop2 Inv-loop μ-loop Inv-search μ-search
 unfolding notificationOf
 states-at-requires c κs =
-    let a = c .before .before .before .before .before .before .before .before .before .before .before .before .before .before .args in
+    let a = c .before .before .before .before .before .before .before .before .before .before .before .before .before .before .before .before .before .before .before .args in
     let m = bookOf (a .b) (now (a .held)) (now (a .side1)) (now (a .side2)) in
     let n = notificationOf (a .n) in
     let d = c .before .before .before .before .before .loop .d in
     let l : c .before .loop2 .p < 50 = omega (arith, c .loop2-test .taken, c .before .before .periods-within .ensures, within-few (timeIn (a .b)) (n .first) (n .last) d) in
-    place-inside (a .b) (now (a .side1)) (now (a .side2)) (c .before .before .before .before .before .before .before .before .before .before .search .s) d (c .before .loop2 .p)
-    (slot-inside (a .b) (now (a .held)) (now (a .side1)) (now (a .side2)) (c .before .before .before .before .before .before .before .before .before .before .search .s) (c .before .before .before .before .before .before .before .before .before .before .before .before .before .before .pre) (c .before .before .before .before .before .before .before .before .before .search-test .taken)) (c .before .before .before .before .loop-test .taken) l
+    place-inside (a .b) (now (a .side1)) (now (a .side2)) (c .before .before .before .before .before .before .before .before .before .before .before .before .search .s) d (c .before .loop2 .p)
+    (slot-inside (a .b) (now (a .held)) (now (a .side1)) (now (a .side2)) (c .before .before .before .before .before .before .before .before .before .before .before .before .search .s) (c .before .before .before .before .before .before .before .before .before .before .before .before .before .before .before .before .before .before .before .pre) (c .before .before .before .before .before .before .before .before .before .before .before .search-test .taken)) (c .before .before .before .before .loop-test .taken) l
 
 add-p : tie.Need-add-p Inv-loop2 μ-loop2 Inv-loop μ-loop Inv-search μ-search
 add-p c = search needs
@@ -100,15 +120,15 @@ loop2-less c = search needs
 
 loop2-again : tie.Need-loop2-again Inv-loop2 μ-loop2 Inv-loop μ-loop Inv-search μ-search
 loop2-again c =
-    let a = c .before .before .before .before .before .before .before .before .before .before .before .before .before .before .before .before .args in
+    let a = c .before .before .before .before .before .before .before .before .before .before .before .before .before .before .before .before .before .before .before .before .before .args in
     let m = bookOf (a .b) (now (a .held)) (now (a .side1)) (now (a .side2)) in
     let n = notificationOf (a .n) in
-    let s = c .before .before .before .before .before .before .before .before .before .before .before .before .search .s in
+    let s = c .before .before .before .before .before .before .before .before .before .before .before .before .before .before .search .s in
     let d = c .before .before .before .before .before .before .before .loop .d in
     let p = c .before .before .before .loop2 .p in
     let l : a .b .closed - gatesBefore (timeIn (a .b) .codes) d ≤ p = omega (arith, c .before .before .before .before .before .first-open .ensures, c .before .before .before .loop2 .inv .1 .0) in
     let e : onPeriod m n s d p ≡ c .before .states-at .result =
-    open-states (a .b) (now (a .held)) (now (a .side1)) (now (a .side2)) n (c .before .before .before .before .before .before .before .before .before .before .before .before .before .before .writes-side1 .result) (c .before .before .before .before .before .before .before .before .before .before .before .before .before .writes-side2 .result) s d p (c .before .before .before .before .before .before .before .before .before .before .before .before .before .before .writes-side1 .ensures) (c .before .before .before .before .before .before .before .before .before .before .before .before .before .writes-side2 .ensures) l
+    open-states (a .b) (now (a .held)) (now (a .side1)) (now (a .side2)) n (c .before .before .before .before .before .before .before .before .before .before .before .before .before .before .before .before .before .before .before .writes-side1 .result) (c .before .before .before .before .before .before .before .before .before .before .before .before .before .before .before .before .before .before .writes-side2 .result) s d p (c .before .before .before .before .before .before .before .before .before .before .before .before .before .before .before .before .before .before .before .writes-side1 .ensures) (c .before .before .before .before .before .before .before .before .before .before .before .before .before .before .before .before .before .before .writes-side2 .ensures) l
     ∙ sym (c .before .states-at .ensures) in
     (c .before .before .before .loop2 .inv .0, (omega (arith, c .before .before .before .loop2 .inv .1 .0), some-keep _ _ (c .before .before .before .loop2 .inv .1 .1) (e ∙ c .if2 .left)))
 
@@ -121,10 +141,10 @@ loop-less c = search needs
 loop-again : tie.Need-loop-again Inv-loop2 μ-loop2 Inv-loop μ-loop Inv-search μ-search
 unfolding notificationOf
 loop-again c =
-    let a = c .before .before .before .before .before .before .before .before .before .before .before .before .before .before .args in
+    let a = c .before .before .before .before .before .before .before .before .before .before .before .before .before .before .before .before .before .before .before .args in
     let m = bookOf (a .b) (now (a .held)) (now (a .side1)) (now (a .side2)) in
     let n = notificationOf (a .n) in
-    let s = c .before .before .before .before .before .before .before .before .before .before .search .s in
+    let s = c .before .before .before .before .before .before .before .before .before .before .before .before .search .s in
     let d = c .before .before .before .before .before .loop .d in
     let p = c .before .loop2 .p in
     let l : periodsWithin (timeIn (a .b)) (n .first) (n .last) d ≤ p = rw (← c .before .before .periods-within .ensures) (c .loop2-test .left) in
@@ -138,14 +158,14 @@ search-less c = search needs
 
 search-again : tie.Need-search-again Inv-loop2 μ-loop2 Inv-loop μ-loop Inv-search μ-search
 search-again c =
-    let a = c .before .before .before .before .before .before .before .before .args in
+    let a = c .before .before .before .before .before .before .before .before .before .before .before .before .before .args in
     let m = bookOf (a .b) (now (a .held)) (now (a .side1)) (now (a .side2)) in
     let n = notificationOf (a .n) in
-    let s = c .before .before .before .before .search .s in
+    let s = c .before .before .before .before .before .before .search .s in
     let o = other-any (a .b) (now (a .held)) (now (a .side1)) (now (a .side2)) n (getD (now (a .held)) s 0) in
     ⊎-elim
-    (λ w. (w .3 ∙ w .1 .inv .0, some-keep _ _ (c .before .before .before .before .search .inv .1) (slot-miss m n s (w .1 .d) (w .1 .inv .1) (rw (codes-own (a .b .setup .days) (a .b .setup .codes)) (w .2 .left)))))
-    (λ w. (w .1 ∙ c .before .before .before .before .search .inv .0, some-keep _ _ (c .before .before .before .before .search .inv .1) (slot-skip m n s (o ∙ sym (c .before .is-other .ensures) ∙ w .0 .left))))
+    (λ w. (w .3 ∙ w .1 .inv .0, some-keep _ _ (c .before .before .before .before .before .before .search .inv .1) (slot-miss m n s (w .1 .d) (w .1 .inv .1) (rw (codes-own (a .b .setup .days) (a .b .setup .codes)) (w .2 .left)))))
+    (λ w. (w .1 ∙ c .before .before .before .before .before .before .search .inv .0, some-keep _ _ (c .before .before .before .before .before .before .search .inv .1) (slot-skip m n s (o ∙ sym (c .before .is-other .ensures) ∙ w .0 .left))))
     (c .if1 .came)
 
 returns : tie.Need-returns Inv-loop2 μ-loop2 Inv-loop μ-loop Inv-search μ-search
@@ -154,20 +174,20 @@ returns c = c .before .search .inv .0 ∙ sym (some-upto _ _ _ (c .before .searc
 returns-2 : tie.Need-returns-2 Inv-loop2 μ-loop2 Inv-loop μ-loop Inv-search μ-search
 unfolding notificationOf
 returns-2 c =
-    let a = c .before .before .before .before .before .before .before .before .before .before .before .before .before .before .before .before .args in
+    let a = c .before .before .before .before .before .before .before .before .before .before .before .before .before .before .before .before .before .before .before .before .before .args in
     let m = bookOf (a .b) (now (a .held)) (now (a .side1)) (now (a .side2)) in
     let n = notificationOf (a .n) in
-    let s = c .before .before .before .before .before .before .before .before .before .before .before .before .search .s in
+    let s = c .before .before .before .before .before .before .before .before .before .before .before .before .before .before .search .s in
     let d = c .before .before .before .before .before .before .before .loop .d in
     let p = c .before .before .before .loop2 .p in
     let l : a .b .closed - gatesBefore (timeIn (a .b) .codes) d ≤ p = omega (arith, c .before .before .before .before .before .first-open .ensures, c .before .before .before .loop2 .inv .1 .0) in
     let e : onPeriod m n s d p ≡ c .before .states-at .result =
-    open-states (a .b) (now (a .held)) (now (a .side1)) (now (a .side2)) n (c .before .before .before .before .before .before .before .before .before .before .before .before .before .before .writes-side1 .result) (c .before .before .before .before .before .before .before .before .before .before .before .before .before .writes-side2 .result) s d p (c .before .before .before .before .before .before .before .before .before .before .before .before .before .before .writes-side1 .ensures) (c .before .before .before .before .before .before .before .before .before .before .before .before .before .writes-side2 .ensures) l
+    open-states (a .b) (now (a .held)) (now (a .side1)) (now (a .side2)) n (c .before .before .before .before .before .before .before .before .before .before .before .before .before .before .before .before .before .before .before .writes-side1 .result) (c .before .before .before .before .before .before .before .before .before .before .before .before .before .before .before .before .before .before .writes-side2 .result) s d p (c .before .before .before .before .before .before .before .before .before .before .before .before .before .before .before .before .before .before .before .writes-side1 .ensures) (c .before .before .before .before .before .before .before .before .before .before .before .before .before .before .before .before .before .before .writes-side2 .ensures) l
     ∙ sym (c .before .states-at .ensures) in
     let o = other-any (a .b) (now (a .held)) (now (a .side1)) (now (a .side2)) n (getD (now (a .held)) s 0) in
     let q : p < periodsWithin (timeIn (a .b)) (n .first) (n .last) d = rw (← c .before .before .before .before .periods-within .ensures) (c .before .before .loop2-test .taken) in
     sym
-    (some-hit (length (now (a .held))) (overlaps m n) s (c .before .before .before .before .before .before .before .before .before .before .before .search-test .taken)
+    (some-hit (length (now (a .held))) (overlaps m n) s (c .before .before .before .before .before .before .before .before .before .before .before .before .before .search-test .taken)
     (slot-hit m n s d (o ∙ sym (c .before .before .before .before .before .before .before .before .before .is-other .ensures) ∙ c .before .before .before .before .before .before .before .before .if1 .taken) (rw (codes-own (a .b .setup .days) (a .b .setup .codes)) (c .before .before .before .before .before .before .loop-test .taken))
     (day-hit m n s d p q (e ∙ c .if2 .taken))))
 
@@ -183,9 +203,14 @@ is-overlapped-spec =
     μ-search
     writes-side1-requires
     writes-side2-requires
+    cast-row-of
+    row-of-requires
     search-holds
-    mul-is-other
-    shared-slice-read-is-other
+    mul-entry
+    shared-slice-read-entry
+    origin-place-requires
+    mul-row
+    element-copy-out-row
     is-other-requires
     loop-holds
     first-open-requires
