@@ -161,17 +161,22 @@ static void read_tables(worker *w) {
 
 /* ---- measuring */
 
+/* The processor's time for this program, so that others on the machine do not count while it waits for them. */
 static double seconds(void) {
     struct timespec now;
-    clock_gettime(CLOCK_MONOTONIC, &now);
+    clock_gettime(CLOCK_PROCESS_CPUTIME_ID, &now);
     return (double)now.tv_sec + 1e-9 * (double)now.tv_nsec;
 }
 
-static double time_of(void (*job)(worker *), worker *w) {
+/* A job of one unit is a question: it changes nothing, and is asked often enough that reading the clock does not count. */
+enum { TIMES_ASKED = 64 };
+
+static double time_of(void (*job)(worker *), size_t units, worker *w) {
+    int times = units == 1 ? TIMES_ASKED : 1;
     begin(w);
     double start = seconds();
-    job(w);
-    return seconds() - start;
+    for (int k = 0; k < times; k++) job(w);
+    return (seconds() - start) / times;
 }
 
 static double lesser(double a, double b) { return a < b ? a : b; }
@@ -183,11 +188,11 @@ typedef struct {
 /* A round of each first, which is not counted: it brings code and tables into the caches. */
 static measured measure(const char *name, void (*job)(worker *), size_t units) {
     measured best = {1e9, 1e9};
-    time_of(job, &ours);
-    time_of(job, &twin);
+    time_of(job, units, &ours);
+    time_of(job, units, &twin);
     for (int k = 0; k < rounds; k++) {
-        best.ours = lesser(best.ours, time_of(job, &ours));
-        best.twin = lesser(best.twin, time_of(job, &twin));
+        best.ours = lesser(best.ours, time_of(job, units, &ours));
+        best.twin = lesser(best.twin, time_of(job, units, &twin));
         hold_against_each_other(name);
     }
     return (measured){1e9 * best.ours / (double)units, 1e9 * best.twin / (double)units};
@@ -195,8 +200,8 @@ static measured measure(const char *name, void (*job)(worker *), size_t units) {
 
 static double measure_plain_read(void) {
     double best = 1e9;
-    time_of(read_tables, &twin);
-    for (int k = 0; k < rounds; k++) best = lesser(best, time_of(read_tables, &twin));
+    time_of(read_tables, 1, &twin);
+    for (int k = 0; k < rounds; k++) best = lesser(best, time_of(read_tables, 1, &twin));
     return 1e9 * best;
 }
 
