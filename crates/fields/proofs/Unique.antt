@@ -2,7 +2,7 @@
 use mathlib.Core.Bool.{Bool}
 use mathlib.Core.List.{List}
 use mathlib.Core.Path.{_≡_}
-use Prim.Native.Nat.{ℕ, _%_, min}
+use Prim.Native.Nat.{ℕ, _%_}
 use lib.IntN.{ℤ}
 use Rattle.words.specs.Fields.{fieldAt, setField, fitsSigned, signedOf}
 use Rattle.laws.proofs.Cases.{one-outcome}
@@ -10,9 +10,6 @@ use Rattle.fields.specs.Narrow.{narrow, readInto, writeFrom, volumeBits}
 
 pub unique-read-field : (s : List ℕ) (p w r r′ : ℕ) → r ≡ fieldAt s p (narrow w) → r′ ≡ fieldAt s p (narrow w) → r ≡ r′
 unique-read-field s p w r r′ = one-outcome
-
-pub unique-read-wide : (s : List ℕ) (p w r r′ : ℕ) → r ≡ fieldAt s p (min w 56) → r′ ≡ fieldAt s p (min w 56) → r ≡ r′
-unique-read-wide s p w r r′ = one-outcome
 
 pub unique-write-field : (s : List ℕ) (p w v : ℕ) (t t′ : List ℕ) → t ≡ setField s p (narrow w) v → t′ ≡ setField s p (narrow w) v → t ≡ t′
 unique-write-field s p w v t t′ = one-outcome

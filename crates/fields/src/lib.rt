@@ -2,15 +2,12 @@
 // fields. Past the end of the bytes a bit is 0, and writing one changes nothing, so no caller owes an index.
 ghost use mathlib.Core.Path.{_≡_};
 ghost use Prim.Native.Nat.{_+_, _*_, _%_, _≤_, _<_, _^_, min};
-ghost use lib.ListN.{length, getD};
+ghost use lib.ListN.{length};
 ghost use lib.Signed.{mag};
-ghost use Rattle.words.specs.Fields.{weight, fieldAt, withBit, setBit, setField, fitsSigned, signedOf, bitsOf};
+ghost use Rattle.words.specs.Fields.{weight, bitAt, fieldAt, withBit, setBit, setField, fitsSigned, signedOf, bitsOf};
 ghost use Rattle.fields.specs.Narrow.{narrow, fewest, readInto, writeFrom, volumeBits};
 
 const WIDEST_FIELD: usize = 32;
-
-// Eight bytes hold so many bits from any bit of the first on.
-const WIDEST_READING: usize = 56;
 
 const MOST_FIELDS: usize = 64;
 
@@ -28,74 +25,32 @@ fn weight_of(p: usize) -> u32
     128u32 >> k
 }
 
-// Byte i, 0 past the end.
-fn byte(src: &[u8], i: usize) -> u64
-    ensures { λ r. ⌜ (r ≡ getD (now (src .entry)) i 0) × (r < 256) ⌝ }
+// Bit p, 0 past the end.
+fn bit(src: &[u8], p: usize) -> u32
+    ensures { λ r. ⌜ r ≡ bitAt (now (src .entry)) p ⌝ }
 {
+    let i = p / 8;
     if i < src.len() {
-        return src[i] as u64;
+        let m = weight_of(p);
+        let x = src[i] as u32;
+        x / m % 2
+    } else {
+        0
     }
-    0
 }
 
-// The eight bytes from byte `first` on, joined to one number; those past the end are 0.
-fn last_bytes(src: &[u8], first: usize) -> u64
-    requires { ⌜ first + 8 < 2 ^ 64 ⌝ }
-    ensures { λ r. ⌜ r ≡ fieldAt (now (src .entry)) (first * 8) 64 ⌝ }
-{
-    let mut joined: u64 = 0;
-    let mut n: usize = 0;
-    while n < 8 {
-        joined = joined * 256 + byte(src, first + n);
-        n += 1;
-    }
-    joined
-}
-
-// The same where there are as many, without a test for each, so that the machine reads them at once.
-fn eight_bytes(src: &[u8], first: usize) -> u64
-    requires { ⌜ first + 8 ≤ length (now src) ⌝ }
-    ensures { λ r. ⌜ r ≡ fieldAt (now (src .entry)) (first * 8) 64 ⌝ }
-{
-    let mut joined: u64 = 0;
-    let mut n: usize = 0;
-    while n < 8 {
-        joined = joined * 256 + src[first + n] as u64;
-        n += 1;
-    }
-    joined
-}
-
-// Either way.
-fn joined_bytes(src: &[u8], first: usize) -> u64
-    requires { ⌜ first + 8 < 2 ^ 64 ⌝ }
-    ensures { λ r. ⌜ r ≡ fieldAt (now (src .entry)) (first * 8) 64 ⌝ }
-{
-    if first + 8 <= src.len() {
-        return eight_bytes(src, first);
-    }
-    last_bytes(src, first)
-}
-
-// The field of `width` bits from bit `at` on: whole bytes joined, and the field cut out of them.
-fn cut_bits(src: &[u8], at: usize, width: usize) -> u64
-    requires { ⌜ (width ≤ 56) × (at + width < 2 ^ 64) ⌝ }
-    ensures { λ r. ⌜ r ≡ fieldAt (now (src .entry)) at width ⌝ }
-{
-    if width == 0 {
-        return 0;
-    }
-    let joined = joined_bytes(src, at / 8);
-    let below = 64 - at % 8 - width;
-    (joined >> below) % (1u64 << width)
-}
-
-// A field of at most 32 bits.
+// The field of `width` bits from bit `at` on, picked out bit by bit.
 fn read_bits(src: &[u8], at: usize, width: usize) -> u32
     requires { ⌜ (width ≤ 32) × (at + width < 2 ^ 64) ⌝ }
     ensures { λ r. ⌜ r ≡ fieldAt (now (src .entry)) at width ⌝ }
 {
-    cut_bits(src, at, width) as u32
+    let mut value: u32 = 0;
+    let mut i: usize = 0;
+    while i < width {
+        value = value * 2 + bit(src, at + i);
+        i += 1;
+    }
+    value
 }
 
 // Byte x with bit p of the bytes, which stands in it, made b.
@@ -159,14 +114,6 @@ pub fn read_field(src: &[u8], at: u32, width: u8) -> u32
 {
     let w = narrowed(width);
     read_bits(src, at as usize, w)
-}
-
-// The field of `width` bits, at most 56, from bit `at` on: small fields that stand side by side, in one reading.
-pub fn read_wide(src: &[u8], at: u32, width: u8) -> u64
-    ensures { λ r. ⌜ r ≡ fieldAt (now (src .entry)) at (min width 56) ⌝ }
-{
-    let w = lesser(width as usize, WIDEST_READING);
-    cut_bits(src, at as usize, w)
 }
 
 // The field of `width` bits, at most 32, from bit `at` on made `value`.

@@ -20,11 +20,6 @@ const TOO_MANY_ENTRIES: u8 = 21;
 
 const PADDING_BIT: u8 = 22;
 
-// Period and volume of an entry are read at once: six bits, and 28 bits of 2 ^ 28 values.
-const ENTRY_WIDTH: u8 = 34;
-
-const VOLUMES: u64 = 268435456;
-
 // The kind, 0 to 3.
 fn kind_in(bytes: &[u8]) -> u8
     ensures { λ r. ⌜ r ≡ kindIn (now (bytes .entry)) ⌝ }
@@ -84,9 +79,8 @@ fn entry_in(bytes: &[u8], k: u8) -> Entry
     ensures { λ r. ⌜ r ≡ entryIn (now (bytes .entry)) k ⌝ }
 {
     let at = layouts::NOTIFICATION_BITS + layouts::ENTRY_BITS * k as u32;
-    let both = fields::read_wide(bytes, at, ENTRY_WIDTH);
-    let period = (both / VOLUMES) as u8;
-    let volume = fields::volume_of_bits((both % VOLUMES) as u32);
+    let period = fields::read_field(bytes, at, 6) as u8;
+    let volume = fields::volume_of_bits(fields::read_field(bytes, at + 6, 28));
     Entry {
         period: period,
         volume: volume,
@@ -194,17 +188,6 @@ fn message_in(bytes: &[u8]) -> Message
         }
         _ => m,
     }
-}
-
-// The bytes that the message at the front takes, 0 with a refusal. Its entries are not read.
-pub fn message_length(bytes: &[u8]) -> usize
-    ensures { λ r. ⌜ r ≡ readMessage (now (bytes .entry)) .length ⌝ }
-{
-    let answer = reading_refusal(bytes);
-    if answer != 0 {
-        return 0;
-    }
-    layouts::bytes_for(kind_in(bytes), count_in(bytes))
 }
 
 // The message at the front of the bytes: its answer, its length and itself. Bytes after it belong to the next.

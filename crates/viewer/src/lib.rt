@@ -103,7 +103,8 @@ pub extern "C" fn ghendufika_message_refusal(bytes: &[u8]) -> u8
 pub extern "C" fn ghendufika_message_length(bytes: &[u8]) -> usize
     ensures { λ r. ⌜ r ≡ readMessage (now (bytes .entry)) .length ⌝ }
 {
-    messages::reading::message_length(bytes)
+    let read = messages::reading::read_message(bytes);
+    read.length
 }
 
 // One field of the message, 0 with a refusal.
