@@ -11,8 +11,6 @@
 
 /* ---- what the account is shown */
 
-enum { BLANK, ONE_SIDE, MATCHED, DIFFERENT }; /* the cases of ghendufika_day_marks */
-enum { NOT_IN_THE_PAIR = 15 };                /* of its answers, the one that is no fault */
 enum standing { AGREED, DISAGREED, OWN_ONLY, OTHER_ONLY, NOTHING, STANDINGS };
 
 /* What an identifier says of a period: this account's side and the other's, in MWh with plus for sold. A side that says nothing has 0. */
@@ -38,10 +36,10 @@ typedef struct {
 static bool is_zero(const bar *shown) { return shown->own == 0 && shown->other == 0; }
 
 static bar bar_of(uint8_t case_number, double first, double second, bool on_side_one, bool own_stands) {
-    if (case_number == MATCHED) return (bar){AGREED, first, first};
+    if (case_number == GHENDUFIKA_AGREED) return (bar){AGREED, first, first};
     /* Side 1's figure comes first, and this account may be on either side. */
-    if (case_number == DIFFERENT) return on_side_one ? (bar){DISAGREED, first, second} : (bar){DISAGREED, second, first};
-    if (case_number == ONE_SIDE) return own_stands ? (bar){OWN_ONLY, first, 0} : (bar){OTHER_ONLY, 0, first};
+    if (case_number == GHENDUFIKA_DISAGREED) return on_side_one ? (bar){DISAGREED, first, second} : (bar){DISAGREED, second, first};
+    if (case_number == GHENDUFIKA_ONE_SIDE) return own_stands ? (bar){OWN_ONLY, first, 0} : (bar){OTHER_ONLY, 0, first};
     return (bar){NOTHING, 0, 0};
 }
 
@@ -53,7 +51,7 @@ static uint8_t look_at(view *seen, unsigned slot) {
     double firsts[GHENDUFIKA_PLACES_A_DAY], seconds[GHENDUFIKA_PLACES_A_DAY];
     uint8_t answer = ghendufika_day_marks(told->book, LENT(told), (uint8_t)originator, (uint16_t)reference, (uint8_t)seen->account, (uint16_t)seen->day,
                                           cases, GHENDUFIKA_PLACES_A_DAY, firsts, GHENDUFIKA_PLACES_A_DAY, seconds, GHENDUFIKA_PLACES_A_DAY);
-    if (answer != GHENDUFIKA_DONE) return answer == NOT_IN_THE_PAIR ? GHENDUFIKA_DONE : answer;
+    if (answer != GHENDUFIKA_DONE) return answer == GHENDUFIKA_NO_SUCH_ACCOUNT ? GHENDUFIKA_DONE : answer;
 
     const ghendufika_authorisation *pair = &told->book.setup.rows[originator];
     bool on_side_one = pair->account1 == seen->account;

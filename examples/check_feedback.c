@@ -10,8 +10,6 @@
 #include <stdlib.h>
 #include <string.h>
 
-enum { BLANK, ONE_SIDE, MATCHED, DIFFERENT }; /* the cases of ghendufika_day_marks */
-
 typedef struct {
     int64_t matched_kwh;
     unsigned matched, zero, different, one_side; /* places; `zero` is those of `matched` where both say zero */
@@ -39,16 +37,16 @@ static void print_place(const story *told, unsigned slot, unsigned day, unsigned
     printf("%10u  %9u  %5u  %6u", originator_of(told, slot), reference_of(told, slot), day, period);
     print_volume(side1);
     print_volume(side2);
-    if (case_number == MATCHED) printf("  matched\n");
-    else if (case_number == DIFFERENT) printf("  DIFFERENT by %" PRId32 "\n", side1 - side2);
+    if (case_number == GHENDUFIKA_AGREED) printf("  matched\n");
+    else if (case_number == GHENDUFIKA_DISAGREED) printf("  DIFFERENT by %" PRId32 "\n", side1 - side2);
     else printf("  ONE SIDE, side %d says nothing\n", side1 == GHENDUFIKA_MARK ? 1 : 2);
 }
 
 static void count_place(totals *sum, const story *told, unsigned slot, unsigned day, unsigned period, uint8_t case_number) {
     int32_t kwh = told->side1[place_of(told, slot, day, period)];
-    sum->one_side += case_number == ONE_SIDE;
-    sum->different += case_number == DIFFERENT;
-    if (case_number != MATCHED) return;
+    sum->one_side += case_number == GHENDUFIKA_ONE_SIDE;
+    sum->different += case_number == GHENDUFIKA_DISAGREED;
+    if (case_number != GHENDUFIKA_AGREED) return;
     sum->matched++;
     sum->zero += kwh == 0;
     sum->matched_kwh += kwh;
@@ -68,9 +66,9 @@ static void check_day(totals *sum, const story *told, unsigned slot, unsigned da
     }
     for (unsigned period = 1; period <= periods_on(told, day); period++) {
         uint8_t case_number = cases[period - 1];
-        bool matched_zero = case_number == MATCHED && firsts[period - 1] == 0;
+        bool matched_zero = case_number == GHENDUFIKA_AGREED && firsts[period - 1] == 0;
         count_place(sum, told, slot, day, period, case_number);
-        if (case_number != BLANK && (list_all || !matched_zero)) print_place(told, slot, day, period, case_number);
+        if (case_number != GHENDUFIKA_BLANK && (list_all || !matched_zero)) print_place(told, slot, day, period, case_number);
     }
 }
 

@@ -1,5 +1,6 @@
 /* The sheet of document 01, and with `all` everything that its book shows, in the form of reference/sheet.c, through the proved archive.
- * `print_sheet [all] [one|run]`: messages applied one by one, or as runs with room for 64 answers (the default). */
+ * `print_sheet [all] [one|run]`: messages applied one by one and totals and marks asked period by period, or messages as runs with room for 64
+ * answers and a day of totals and marks at once (the default). */
 #include "ghendufika.h"
 
 #include <stdio.h>
@@ -12,6 +13,7 @@ static ghendufika_book book;
 static uint32_t held[SLOTS];
 static int32_t side1[SLOTS * GHENDUFIKA_MOST_DAYS * GHENDUFIKA_PLACES_A_DAY], side2[SLOTS * GHENDUFIKA_MOST_DAYS * GHENDUFIKA_PLACES_A_DAY];
 static size_t lent; /* places of a side */
+static bool one;    /* one by one */
 
 #define TABLES held, SLOTS, side1, lent, side2, lent
 
@@ -63,12 +65,22 @@ static size_t apply_one_by_one(const uint8_t *bytes, size_t length) {
     return messages;
 }
 
+static void ask_totals(unsigned account, unsigned day, int64_t *kwh) {
+    unsigned number = book.setup.first + day;
+    if (!one && ghendufika_day_totals(book, TABLES, (uint8_t)account, (uint16_t)number, kwh, GHENDUFIKA_PLACES_A_DAY) != 0) give_up("totals were refused");
+    for (int p = 0; one && p < periods_on(day); p++) {
+        ghendufika_totalled total = ghendufika_total(book, TABLES, (uint8_t)account, (uint16_t)number, (uint8_t)(p + 1));
+        if (total.answer != 0) give_up("a total was refused");
+        kwh[p] = total.kwh;
+    }
+}
+
 static void print_totals(void) {
     for (unsigned account = 0; account < book.setup.accounts; account++)
         for (unsigned day = 0; day < book.setup.days; day++) {
             int64_t kwh[GHENDUFIKA_PLACES_A_DAY];
             unsigned number = book.setup.first + day;
-            if (ghendufika_day_totals(book, TABLES, (uint8_t)account, (uint16_t)number, kwh, GHENDUFIKA_PLACES_A_DAY) != 0) give_up("totals were refused");
+            ask_totals(account, day, kwh);
             for (int p = 0; p < periods_on(day); p++)
                 if (kwh[p] != 0) printf("t %u %u %d %lld\n", account, number, p + 1, (long long)kwh[p]);
         }
@@ -78,12 +90,26 @@ static void print_rows(unsigned slot) {
     for (unsigned side = 1; side <= 2; side++)
         for (unsigned day = 0; day < book.setup.days; day++) {
             unsigned number = book.setup.first + day;
-            if (ghendufika_row_refusal(book, TABLES, (uint8_t)originator_of(slot), (uint16_t)reference_of(slot), (uint16_t)number, (uint8_t)side) != 0) give_up("a row was refused");
-            const int32_t *row = (side == 1 ? side1 : side2) + (slot * book.setup.days + day) * GHENDUFIKA_PLACES_A_DAY;
+            ghendufika_row_place row = ghendufika_row(book, TABLES, (uint8_t)originator_of(slot), (uint16_t)reference_of(slot), (uint16_t)number, (uint8_t)side);
+            if (row.answer != 0) give_up("a row was refused");
             printf("r %u %u %u %u", originator_of(slot), reference_of(slot), side, number);
-            for (int p = 0; p < periods_on(day); p++) printf(" %d", row[p]);
+            for (size_t p = 0; p < row.length; p++) printf(" %d", (side == 1 ? side1 : side2)[row.start + p]);
             printf("\n");
         }
+}
+
+static void ask_marks(unsigned slot, unsigned account, unsigned day, uint8_t *cases, double *firsts, double *seconds) {
+    uint8_t originator = (uint8_t)originator_of(slot);
+    uint16_t reference = (uint16_t)reference_of(slot), number = (uint16_t)(book.setup.first + day);
+    if (!one && ghendufika_day_marks(book, TABLES, originator, reference, (uint8_t)account, number, cases, GHENDUFIKA_PLACES_A_DAY,
+                                     firsts, GHENDUFIKA_PLACES_A_DAY, seconds, GHENDUFIKA_PLACES_A_DAY) != 0) give_up("marks were refused");
+    for (int p = 0; one && p < periods_on(day); p++) {
+        ghendufika_marked mark = ghendufika_mark(book, TABLES, originator, reference, (uint8_t)account, number, (uint8_t)(p + 1));
+        if (mark.answer != 0) give_up("a mark was refused");
+        cases[p] = mark.bar;
+        firsts[p] = mark.first;
+        seconds[p] = mark.second;
+    }
 }
 
 static void print_marks(unsigned slot, unsigned account) {
@@ -91,8 +117,7 @@ static void print_marks(unsigned slot, unsigned account) {
         uint8_t cases[GHENDUFIKA_PLACES_A_DAY];
         double firsts[GHENDUFIKA_PLACES_A_DAY], seconds[GHENDUFIKA_PLACES_A_DAY];
         unsigned number = book.setup.first + day;
-        if (ghendufika_day_marks(book, TABLES, (uint8_t)originator_of(slot), (uint16_t)reference_of(slot), (uint8_t)account, (uint16_t)number,
-                                 cases, GHENDUFIKA_PLACES_A_DAY, firsts, GHENDUFIKA_PLACES_A_DAY, seconds, GHENDUFIKA_PLACES_A_DAY) != 0) give_up("marks were refused");
+        ask_marks(slot, account, day, cases, firsts, seconds);
         for (int p = 0; p < periods_on(day); p++)
             if (cases[p] != 0)
                 printf("k %u %u %u %u %d %u %016llx %016llx\n", originator_of(slot), reference_of(slot), account, number, p + 1, cases[p], bits(firsts[p]), bits(seconds[p]));
@@ -122,7 +147,7 @@ static void print_all(void) {
 }
 
 int main(int argc, char **argv) {
-    int all = 0, one = 0;
+    bool all = false;
     for (int k = 1; k < argc; k++) {
         all = all || strcmp(argv[k], "all") == 0;
         one = one || strcmp(argv[k], "one") == 0;
