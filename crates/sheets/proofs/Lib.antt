@@ -6,4 +6,5 @@ pub mod TurnLaws
 pub mod FirstLaws
 pub mod KeptLaws
 pub mod Room
+pub mod SameTurns
 pub mod Unique
