@@ -79,9 +79,6 @@ told-turn seen b ended bytes e =
     let all = told-all ended (length bytes) (runOver b bytes) e in
     record { lines = ap (toldLines seen) (all .0); seen = ap (seenAfter seen) (all .1); book = refl }
 
-abbrev thenRun : List ℕ → ℕ → Run → Run
-thenRun answers used rest = record { answers = answers ++ rest .answers; used = used + rest .used; book = rest .book }
-
 -- a turn, and those after it
 module _ (seen : ℕ) (b : Book contracts) (bytes later : List ℕ) (rest : Turn) where
   abbrev run : Run
