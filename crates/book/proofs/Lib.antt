@@ -3,6 +3,5 @@ pub mod StateLaws
 pub mod SoundParts
 pub mod GateLaws
 pub mod OpeningLaws
-pub mod CheckLaws
 pub mod UniqueState
 pub mod PackedOpening

@@ -15,10 +15,11 @@ use Rattle.meaning.specs.Books.{countsWrong, lastDayWrong, lentWrong, codeWrong
 use Rattle.meaning.specs.PackedMessages.{Reading}
 use Rattle.meaning.specs.PackedSetups.{noSetup, setupIn, setupReadingRules, readSetup}
 use Rattle.meaning.proofs.PackedSetupRules.{setup-reading-answer, setup-reading-done, setup-readable}
-use Rattle.setups.specs.Structs.{setupOf, setupFor, setupRead}
+use Rattle.setups.specs.Structs.{setupOf, setupFor}
 use Rattle.setups.specs.declared.Setup.{Setup}
-use Rattle.setups.specs.declared.SetupRead.{SetupRead}
-use Rattle.setups.proofs.ReadParts.{struct-holds, few-codes, few-rows}
+use Rattle.packed_setups.specs.Structs.{setupRead}
+use Rattle.packed_setups.specs.declared.SetupRead.{SetupRead}
+use Rattle.packed_setups.proofs.ReadParts.{struct-holds, few-codes, few-rows}
 use Rattle.setups.proofs.SetupHeld.{codes-own}
 use Rattle.book.specs.Answers.{opened, openedPacked, heldOpened, sideOpened}
 use Rattle.book.specs.declared.Opened.{Opened}

@@ -1,6 +1,6 @@
 -- No two different outcomes satisfy one promise: the result, and each table left.
 use mathlib.Core.Bool.{Bool}
-use mathlib.Core.List.{List, []}
+use mathlib.Core.List.{List}
 use mathlib.Core.Path.{_≡_, ap}
 use Prim.Native.Nat.{ℕ}
 use lib.IntN.{ℤ}
@@ -13,11 +13,8 @@ use Rattle.meaning.specs.Calls.{gateRules}
 use Rattle.setups.specs.declared.Authorisation.{Authorisation}
 use Rattle.setups.specs.declared.Setup.{Setup}
 use Rattle.setups.specs.Structs.{rowOf, rowFor, setupOf}
-use Rattle.messages.specs.declared.Notification.{Notification}
-use Rattle.messages.specs.Structs.{notificationOf}
 use Rattle.clock.specs.declared.Clock.{Clock}
 use Rattle.book.specs.Answers.{nextAnswer, gated, opened, heldOpened, sideOpened}
-use Rattle.book.specs.Checks.{checkRules}
 use Rattle.book.specs.Structs.{clockIn, rowsIn, bookOf}
 use Rattle.book.specs.declared.Book.{Book}
 use Rattle.book.specs.declared.Gated.{Gated}
@@ -37,10 +34,6 @@ unique-is-sound b held side1 side2 r r′ p q = one-outcome p q
 
 pub unique-close-next : (b : Book) (r r′ : Gated) → r ≡ gated b (nextAnswer b) → r′ ≡ gated b (nextAnswer b) → r ≡ r′
 unique-close-next b r r′ p q = one-outcome p q
-
-pub unique-checks-refusal : (b : Book) (n : Notification) (r r′ : ℕ)
-    → r ≡ answer (checkRules (bookOf b [] [] []) (notificationOf n)) → r′ ≡ answer (checkRules (bookOf b [] [] []) (notificationOf n)) → r ≡ r′
-unique-checks-refusal b n r r′ p q = one-outcome p q
 
 pub unique-close-gate : (b : Book) (held : List ℕ) (side1 side2 : List ℤ) (r r′ : Gated)
     → r ≡ gated b (answer (gateRules (bookOf b held side1 side2))) → r′ ≡ gated b (answer (gateRules (bookOf b held side1 side2))) → r ≡ r′

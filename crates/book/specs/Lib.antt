@@ -1,4 +1,3 @@
--- How a book by value and its lent tables hold the book that meaning speaks of; what the parts of its calls answer, and what the calls give.
+-- How a book by value and its lent tables hold the book that meaning speaks of, and what the calls give.
 pub mod Structs
 pub mod Answers
-pub mod Checks

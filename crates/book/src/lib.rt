@@ -4,7 +4,6 @@ pub mod numbers; // numbers.rt: the answer numbers
 pub mod state; // state.rt: the clock and the authorisations of a book, and its soundness
 pub mod gates; // gates.rt: closing the next gate
 pub mod opening; // opening.rt: a setup and three lent tables to a book
-pub mod checks; // checks.rt: what can be wrong with a notification that needs no table
 
 // The setup, and the number of gates closed.
 #[repr(C)]

@@ -27,7 +27,8 @@ use Rattle.messages.specs.Structs.{nullificationOf}
 use Rattle.messages.specs.declared.Nullification.{Nullification}
 use Rattle.effects.specs.Effects.{pairBlanked}
 use Rattle.effects.proofs.EffectLaws.{blanked-few}
-use Rattle.calls.specs.Answers.{afterCall, accountsWrong, pairRules}
+use Rattle.checks.specs.Checks.{accountsWrong, pairRules}
+use Rattle.calls.specs.Answers.{afterCall}
 use Rattle.book.specs.Structs.{bookOf}
 use Rattle.book.specs.declared.Book.{Book}
 

@@ -23,8 +23,8 @@ use Rattle.meaning.specs.Notifications.{under, isReplacement, isAdditional, kin
 use Rattle.meaning.specs.Calls.{Call, message, rulesFor, refusal, act}
 use Rattle.meaning.proofs.SetupRules.{opens}
 use Rattle.meaning.proofs.Sound.{parts}
-use Rattle.calls.specs.Answers.{afterCall, lateRules}
-use Rattle.book.specs.Checks.{checkRules}
+use Rattle.calls.specs.Answers.{afterCall}
+use Rattle.checks.specs.Checks.{checkRules, lateRules}
 use Rattle.effects.specs.Effects.{slotRule}
 use Rattle.kinds.specs.Kinds.{Fits, kindAnswer}
 use Rattle.kinds.proofs.KindLaws.{kind-fitting}
@@ -36,14 +36,6 @@ use Rattle.calls.proofs.CallLaws.{call-accepted}
 use Rattle.effects.proofs.EffectLaws.{volumesGiven, accepted-side, unwritten-side}
 
 -- ---- its slot
-
-pub slot-own : (held : List ℕ) (i : ℕ) → find (suc i) held < length held → find (suc i) held ≡ slotFor held i
-unfolding slotFor isHeld
-slot-own held i h = rw (lt-ltb (find (suc i) held) (length held) h)
-
-pub slot-new : (held : List ℕ) (i : ℕ) → length held ≤ find (suc i) held → find 0 held ≡ slotFor held i
-unfolding slotFor isHeld
-slot-new held i h = rw (le-ltb (find (suc i) held) (length held) h)
 
 slot-full : (held : List ℕ) (i : ℕ) → not (isHeld held i) && everySlotHeld held ≡ leb (length held) (slotFor held i)
 unfolding slotFor isHeld

@@ -35,29 +35,7 @@ afterMessage b m = after b (callsOf m)
 abbrev pub bookAt : Book → Meaning.Book contracts → Book
 bookAt b whole = record { setup = b .setup; closed = whole .time .closed }
 
--- ---- a nullification
-
--- an account of it is not in the book, or the two are one
-unfoldable pub accountsWrong : Book → Nullification → Bool
-accountsWrong b x = not (x .account <? b .setup .accounts) || not (x .other <? b .setup .accounts) || x .account =? x .other
-
--- its rules that read no table
-unfoldable pub pairRules : Book → Nullification → List Rule
-pairRules b x =
-    2 when everyGateClosed (timeIn b) else
-    15 when accountsWrong b x else
-    9 when nextDay (timeIn b) ≤? x .first else
-    done
-
 -- ---- a notification
-
--- the rules that ask for its kind, its authorisation's type, its slot and the number of slots
-unfoldable pub lateRules : ℕ → ℕ → ℕ → ℕ → List Rule
-lateRules kind type slot slots =
-    12 when kind =? 2 && type =? 2 else
-    13 when kind =? 3 && type =? 1 else
-    14 when slots ≤? slot else
-    done
 
 abbrev pub notifiedOf : Notifications.Notified → Notified
 notifiedOf r = record { answer = r .answer; kind = r .kind; slot = r .slot }

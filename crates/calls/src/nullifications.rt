@@ -24,7 +24,7 @@ pub fn nullification_refusal(
     if !state::is_sound(b, held, side1, side2) {
         return numbers::NOT_SOUND;
     }
-    sound_book::judge_nullification(b, x)
+    checks::nullifications::judge_nullification(b, x)
 }
 
 // The answer. Both tables with the mark at the open places from its first day on, in each slot whose identifier is between the two accounts; a

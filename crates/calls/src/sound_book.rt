@@ -2,7 +2,6 @@
 use crate::Notified;
 use book::Book;
 use book::Gated;
-use book::checks;
 use book::gates;
 use book::numbers;
 use book::state;
@@ -19,42 +18,8 @@ ghost use Rattle.meaning.specs.Calls.{message, refusal};
 ghost use Rattle.clock.specs.Structs.{timeOf};
 ghost use Rattle.messages.specs.Structs.{notificationOf, nullificationOf, messageOf};
 ghost use Rattle.book.specs.Structs.{bookOf};
-ghost use Rattle.calls.specs.Answers.{afterCall, afterMessage, lateRules, accountsWrong, pairRules, notifiedOf, messageDone};
+ghost use Rattle.calls.specs.Answers.{afterCall, afterMessage, notifiedOf, messageDone};
 ghost use Rattle.effects.specs.Effects.{slotRule};
-
-// The entry of `held` that holds its identifier.
-fn entry_of(n: messages::Notification) -> u32
-    ensures { λ r. ⌜ r ≡ suc (notificationOf n .identifier) ⌝ }
-{
-    n.originator as u32 * ledger::REFERENCES + n.reference as u32 + 1
-}
-
-// "A new identifier takes the lowest unheld slot."; the number of slots where there is none.
-fn slot_for(held: &[u32], n: messages::Notification) -> usize
-    ensures { λ r. ⌜ r ≡ slotFor (now (held .entry)) (notificationOf n .identifier) ⌝ }
-{
-    let own = ledger::slot_with(held, entry_of(n));
-    if own < held.len() {
-        return own;
-    }
-    ledger::slot_with(held, 0)
-}
-
-// 12, 13 and 14, of its kind, its authorisation's type, its slot and the number of slots.
-fn late_refusal(kind: u8, amendment: u8, slot: usize, slots: usize) -> u8
-    ensures { λ r. ⌜ r ≡ answer (lateRules kind amendment slot slots) ⌝ }
-{
-    if (kind == 2) & (amendment == 2) {
-        return numbers::REPLACEMENT_NOT_ALLOWED;
-    }
-    if (kind == 3) & (amendment == 1) {
-        return numbers::ADDITIONAL_NOT_ALLOWED;
-    }
-    if slots <= slot {
-        return numbers::NO_SLOT;
-    }
-    0
-}
 
 pub(crate) fn refused(answer: u8) -> Notified
     ensures { λ r. ⌜ r ≡ record { answer = answer; kind = 0; slot = 0 } ⌝ }
@@ -77,14 +42,14 @@ pub(crate) fn judge_notification(
     requires { ⌜ sound (bookOf b (now held) (now side1) (now side2)) ≡ true ⌝ }
     ensures { λ r. ⌜ r ≡ notifiedOf (notified (bookOf b (now (held .entry)) (now (side1 .entry)) (now (side2 .entry))) (notificationOf n)) ⌝ }
 {
-    let early = checks::checks_refusal(b, n);
+    let early = checks::notifications::checks_refusal(b, n);
     if early != 0 {
         return refused(early);
     }
     let kind = kinds::kind_of(b, held, side1, side2, n);
     let row = state::row_of(b, n.authorisation as u32);
-    let slot = slot_for(held, n);
-    let late = late_refusal(kind, row.amendment, slot, held.len());
+    let slot = checks::slots::slot_for(held, n);
+    let late = checks::notifications::late_refusal(kind, row.amendment, slot, held.len());
     if late != 0 {
         return refused(late);
     }
@@ -124,35 +89,10 @@ pub(crate) fn do_notification(
     }
     let slot = told.slot as usize;
     let c = state::clock_of(b);
-    held[slot] = entry_of(n);
+    held[slot] = checks::slots::entry_of(n);
     write_side(side1, kinds::writes_side1(b, n), c, slot as u8, n);
     write_side(side2, kinds::writes_side2(b, n), c, slot as u8, n);
     told
-}
-
-// An account is not in the book, or the two are one.
-fn accounts_wrong(b: Book, x: messages::Nullification) -> bool
-    ensures { λ r. ⌜ r ≡ accountsWrong b x ⌝ }
-{
-    let accounts = b.setup.accounts;
-    !(x.account < accounts) | !(x.other < accounts) | (x.account == x.other)
-}
-
-// What refuses a nullification that is not soundness: 2, 15, 9.
-pub(crate) fn judge_nullification(b: Book, x: messages::Nullification) -> u8
-    ensures { λ r. ⌜ r ≡ answer (pairRules b x) ⌝ }
-{
-    let c = state::clock_of(b);
-    if clock::every_gate_closed(c) {
-        return numbers::EVERY_GATE_CLOSED;
-    }
-    if accounts_wrong(b, x) {
-        return numbers::NO_SUCH_ACCOUNT;
-    }
-    if b.setup.first as u32 + b.setup.days as u32 <= x.first as u32 {
-        return numbers::FIRST_DAY_AFTER_BOOK;
-    }
-    0
 }
 
 // The answer, and both tables with what an accepted nullification makes of them.
@@ -169,7 +109,7 @@ pub(crate) fn do_nullification(
       let call = message (nullification (nullificationOf x))
       ⌜ (r ≡ refusal before call) × (now (side1 .exit) ≡ afterCall before call .ledger .side1) × (now (side2 .exit) ≡ afterCall before call .ledger .side2) ⌝ }
 {
-    let answer = judge_nullification(b, x);
+    let answer = checks::nullifications::judge_nullification(b, x);
     if answer != 0 {
         return answer;
     }

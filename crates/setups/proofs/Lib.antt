@@ -1,9 +1,4 @@
--- Laws that the functions' proofs share; the round trips in the code's terms; and that no two outcomes meet one promise.
+-- What a setup's struct holds, and that no two outcomes meet one promise.
 pub mod SetupHeld
-pub mod ValuesFit
-pub mod ReadParts
-pub mod WriteParts
-pub mod EitherWay
 pub mod UniqueRules
-pub mod UniqueReading
-pub mod UniqueWriting
+pub mod UniqueSizes

@@ -1,4 +1,3 @@
--- How the structs of `setups` hold what meaning speaks of, and the parts that its own functions are proved by.
+-- How the structs of `setups` hold what meaning speaks of, and what two of its functions answer.
 pub mod Structs
 pub mod Parts
-pub mod Writing

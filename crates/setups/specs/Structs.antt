@@ -2,15 +2,11 @@
 use mathlib.Core.List.{List}
 use Prim.Native.Nat.{ℕ}
 use lib.ListN.{length, getD, replicate}
-use Rattle.words.specs.Tests.{if_then_else_, _<?_}
 use Rattle.words.specs.Lists.{build}
 use Rattle.meaning.specs.Authorisations as Meaning
 use Rattle.meaning.specs.Books as Books
-use Rattle.meaning.specs.PackedMessages.{Reading, Written}
 use Rattle.setups.specs.declared.Authorisation.{Authorisation}
 use Rattle.setups.specs.declared.Setup.{Setup}
-use Rattle.setups.specs.declared.SetupRead.{SetupRead}
-use Rattle.setups.specs.declared.SetupWritten.{SetupWritten}
 
 -- ---- what a struct holds
 
@@ -44,17 +40,3 @@ setupFor s =
 
 abbrev pub noSetupStruct : Setup
 noSetupStruct = record { first = 0; days = 0; accounts = 0; authorisations = 0; codes = replicate 8 0; rows = replicate 64 noAuthorisation }
-
-unfoldable pub setupRead : Reading Books.Setup → SetupRead
-setupRead r = record { answer = r .answer; length = r .length; setup = setupFor (r .read) }
-
-unfoldable pub setupWritten : Written → SetupWritten
-setupWritten w = record { answer = w .answer; length = w .length }
-
--- ---- a setup as it reads back: codes past its days, and rows past its authorisations, are zero
-
-unfoldable pub settled : Setup → Setup
-settled s =
-    let codes = build 8 (λ (k : ℕ). if k <? s .days then getD (s .codes) k 0 else 0) in
-    let rows = build 64 (λ (k : ℕ). if k <? s .authorisations then getD (s .rows) k noAuthorisation else noAuthorisation) in
-    record { first = s .first; days = s .days; accounts = s .accounts; authorisations = s .authorisations; codes = codes; rows = rows }

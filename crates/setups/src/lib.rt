@@ -1,7 +1,6 @@
-// Setups by value, their rules, and reading and writing them packed (meaning, Books.antt and PackedSetups.antt).
+// Setups by value, their rules, and how long they are when packed (meaning, Books.antt and PackedSetups.antt).
 pub mod rules; // rules.rt: what can be wrong with a setup
-pub mod reading; // reading.rt: bytes to a setup
-pub mod writing; // writing.rt: a setup to bytes
+pub mod sizes; // sizes.rt: the bits and bytes that it takes
 
 // An authorisation. `amendment` is its type: 0 both, 1 replacement, 2 additional. A last day of 65,535 is evergreen.
 #[repr(C)]
@@ -25,19 +24,4 @@ pub struct Setup {
     pub authorisations: u8,
     pub codes: [u8; 8],
     pub rows: [Authorisation; 64],
-}
-
-// With a refusal the length is 0 and the setup all zero.
-#[repr(C)]
-pub struct SetupRead {
-    pub answer: u8,
-    pub length: usize,
-    pub setup: Setup,
-}
-
-// With a refusal the length is 0.
-#[repr(C)]
-pub struct SetupWritten {
-    pub answer: u8,
-    pub length: usize,
 }

@@ -13,15 +13,16 @@ use Rattle.messages.specs.Structs.{messageOf, messageRead, messageWritten}
 use Rattle.messages.specs.declared.Message.{Message}
 use Rattle.messages.specs.declared.MessageRead.{MessageRead}
 use Rattle.messages.specs.declared.MessageWritten.{MessageWritten}
-use Rattle.setups.specs.Structs.{setupOf, setupWritten}
+use Rattle.setups.specs.Structs.{setupOf}
+use Rattle.packed_setups.specs.Structs.{setupWritten}
 use Rattle.setups.specs.declared.Setup.{Setup}
-use Rattle.setups.specs.declared.SetupWritten.{SetupWritten}
+use Rattle.packed_setups.specs.declared.SetupWritten.{SetupWritten}
 use Rattle.book.specs.Structs.{bookOf}
 use Rattle.book.specs.declared.Book.{Book}
 use Rattle.bars.specs.Marks.{marked}
 use Rattle.bars.specs.declared.RowPlace.{RowPlace}
 use Rattle.bars.proofs.PlaceLaws.{Placed}
-use Rattle.viewer.specs.Questions.{fieldIn}
+use Rattle.questions.specs.Questions.{fieldIn}
 use Rattle.viewer.specs.Numbers.{markNumbers}
 use Rattle.viewer.specs.declared.MarkNumbers.{MarkNumbers}
 

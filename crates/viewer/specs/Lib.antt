@@ -1,3 +1,2 @@
--- What the C viewer's questions mean.
-pub mod Questions
+-- What the C viewer is shown.
 pub mod Numbers

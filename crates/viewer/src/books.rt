@@ -14,7 +14,8 @@ ghost use Rattle.meaning.specs.Calls.{message, gateRules, refusal};
 ghost use Rattle.meaning.specs.PackedSetups.{readSetup};
 ghost use Rattle.meaning.specs.PackedCalls.{applied, runAnswer, runOn};
 ghost use Rattle.meaning.specs.Rows.{rowRules};
-ghost use Rattle.setups.specs.Structs.{setupOf, setupRead};
+ghost use Rattle.setups.specs.Structs.{setupOf};
+ghost use Rattle.packed_setups.specs.Structs.{setupRead};
 ghost use Rattle.book.specs.Structs.{bookOf};
 ghost use Rattle.messages.specs.Structs.{notificationOf, nullificationOf};
 ghost use Rattle.book.specs.Answers.{opened, heldOpened, sideOpened, gated};
@@ -28,10 +29,10 @@ pub extern "C" fn ghendufika_read_setup(
     slots: usize,
     lent1: usize,
     lent2: usize,
-) -> setups::SetupRead
+) -> packed_setups::SetupRead
     ensures { λ r. ⌜ r ≡ setupRead (readSetup (now (bytes .entry)) slots lent1 lent2) ⌝ }
 {
-    setups::reading::read_setup(bytes, slots, lent1, lent2)
+    packed_setups::reading::read_setup(bytes, slots, lent1, lent2)
 }
 
 #[no_mangle]

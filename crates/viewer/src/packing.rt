@@ -5,7 +5,8 @@ ghost use lib.ListN.{length};
 ghost use Rattle.meaning.specs.PackedMessages.{readMessage, writeMessage};
 ghost use Rattle.meaning.specs.PackedSetups.{readSetup, writeSetup};
 ghost use Rattle.messages.specs.Structs.{messageOf, messageRead, messageWritten};
-ghost use Rattle.setups.specs.Structs.{setupOf, setupWritten};
+ghost use Rattle.setups.specs.Structs.{setupOf};
+ghost use Rattle.packed_setups.specs.Structs.{setupWritten};
 ghost use Rattle.book.specs.Answers.{openedPacked, heldOpened, sideOpened};
 
 #[no_mangle]
@@ -26,10 +27,10 @@ pub extern "C" fn ghendufika_write_message(
 }
 
 #[no_mangle]
-pub extern "C" fn ghendufika_write_setup(s: setups::Setup, out: &mut [u8]) -> setups::SetupWritten
+pub extern "C" fn ghendufika_write_setup(s: setups::Setup, out: &mut [u8]) -> packed_setups::SetupWritten
     ensures { λ r. ⌜ (r ≡ setupWritten (writeSetup (setupOf s) (now (out .entry)))) × (now (out .exit) ≡ writeSetup (setupOf s) (now (out .entry)) .out) ⌝ }
 {
-    setups::writing::write_setup(s, out)
+    packed_setups::writing::write_setup(s, out)
 }
 
 #[no_mangle]

@@ -7,7 +7,7 @@ use borrow.Author.Needs.{needs}
 use Rattle.meaning.specs.PackedMessages.{readMessage}
 use Rattle.messages.specs.declared.Message.{Message}
 use Rattle.messages.specs.declared.MessageRead.{MessageRead}
-use Rattle.viewer.specs.Questions.{messageField}
+use Rattle.questions.specs.Questions.{messageField}
 use Rattle.viewer.proofs.Answers.{message-read}
 use Rattle.viewer.proofs.ghendufika_message_field.Statement.{statement}
 use Rattle.viewer.proofs.ghendufika_message_field.Tie as tie

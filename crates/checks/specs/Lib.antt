@@ -1,0 +1,2 @@
+-- The rules that `checks` tries.
+pub mod Checks

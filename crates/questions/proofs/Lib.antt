@@ -1,0 +1,2 @@
+-- That the promise leaves no choice.
+pub mod Unique

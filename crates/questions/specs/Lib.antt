@@ -1,0 +1,2 @@
+-- What a question for a field of a message means.
+pub mod Questions
