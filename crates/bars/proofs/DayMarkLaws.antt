@@ -16,8 +16,9 @@ use Rattle.meaning.specs.Time.{periodsAt, dayOf, hasDay}
 use Rattle.meaning.specs.Ledgers.{contracts}
 use Rattle.meaning.specs.Books.{Book}
 use Rattle.meaning.specs.Bars.{mark}
-use Rattle.bars.specs.Marks.{barFor, askingRules, dayMarkRules, overFront, dayMarked}
-use Rattle.bars.specs.declared.Bar.{Bar}
+use Rattle.shown.specs.Figures.{barFor}
+use Rattle.bars.specs.Marks.{askingRules, dayMarkRules, overFront, dayMarked}
+use Rattle.shown.specs.declared.Bar.{Bar}
 use Rattle.bars.proofs.MarkLaws.{earlier-answers, later-answers}
 
 -- ---- the front of a buffer

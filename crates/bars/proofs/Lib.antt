@@ -1,7 +1,6 @@
 -- Laws that the functions' proofs share; rows and marks in the code's terms; and that no two outcomes meet one promise.
 pub mod RowLaws
 pub mod PlaceLaws
-pub mod MwhLaws
 pub mod MarkLaws
 pub mod MarkPlaces
 pub mod DayMarkLaws

@@ -14,7 +14,8 @@ use Rattle.meaning.specs.Ledgers.{index, at, originatorOf, identifierOf, slotOf
 use Rattle.meaning.specs.Bars.{mark}
 use Rattle.book.specs.declared.Book.{Book}
 use Rattle.book.specs.Structs.{timeIn, rowsIn}
-use Rattle.bars.specs.Marks.{barFor, askingRules, barSeen, barFrom}
+use Rattle.shown.specs.Figures.{barFor, barSeen}
+use Rattle.bars.specs.Marks.{askingRules, barFrom}
 use Rattle.bars.proofs.RowLaws.{index-from, before, start, origin-of, period-of-day}
 use Rattle.bars.proofs.MarkLaws.{markAnswer, mark-done, mark-answered}
 

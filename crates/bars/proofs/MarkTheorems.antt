@@ -21,13 +21,14 @@ use Rattle.meaning.proofs.Bars.{rowFor, agreed-other-side, agreed-first-side}
 use Rattle.meaning.proofs.Figures.{zero-positive}
 use Rattle.book.specs.declared.Book.{Book}
 use Rattle.book.specs.Structs.{bookOf}
-use Rattle.bars.specs.Marks.{barFor, noFigure, firstOf, secondOf, marked}
-use Rattle.bars.specs.declared.Bar.{Bar}
-use Rattle.bars.specs.declared.Bar.the-variants.{Blank, OneSide, Agreed, Disagreed}
+use Rattle.shown.specs.Figures.{barFor, noFigure, firstOf, secondOf}
+use Rattle.bars.specs.Marks.{marked}
+use Rattle.shown.specs.declared.Bar.{Bar}
+use Rattle.shown.specs.declared.Bar.the-variants.{Blank, OneSide, Agreed, Disagreed}
 use Rattle.bars.specs.declared.Marked.{Marked}
 use Rattle.bars.proofs.RowLaws.{before, start, long, some-long, row-inside, rowAnswer, Shown, shown, row-refused}
 use Rattle.bars.proofs.MarkLaws.{mark-refused}
-use Rattle.bars.proofs.MwhLaws.{mwh-negated, some-not-zero, zero-not-negative, no-negative-zero}
+use Rattle.shown.proofs.MwhLaws.{mwh-negated, some-not-zero, zero-not-negative, no-negative-zero}
 
 -- ---- rows
 

@@ -11,9 +11,10 @@ use Rattle.meaning.specs.Ledgers.{identifierOf}
 use Rattle.meaning.specs.Rows.{rowRules, row}
 use Rattle.book.specs.declared.Book.{Book}
 use Rattle.book.specs.Structs.{bookOf}
-use Rattle.bars.specs.Marks.{caseOf, firstOf, secondOf, marked, dayMarkRules, dayMarked}
+use Rattle.shown.specs.Figures.{caseOf, firstOf, secondOf}
+use Rattle.bars.specs.Marks.{marked, dayMarkRules, dayMarked}
 use Rattle.bars.specs.Rows.{rowPlace}
-use Rattle.bars.specs.declared.Bar.{Bar}
+use Rattle.shown.specs.declared.Bar.{Bar}
 use Rattle.bars.specs.declared.Marked.{Marked}
 use Rattle.bars.specs.declared.RowPlace.{RowPlace}
 
@@ -39,15 +40,6 @@ pub unique-row-place : (b : Book) (held : List ℕ) (side1 side2 : List ℤ) (or
 unique-row-place b held side1 side2 originator reference day side r r′ p q = one-outcome p q
 
 -- ---- marks
-
-pub unique-case-of : (bar : Bar) (r r′ : ℕ) → r ≡ caseOf bar → r′ ≡ caseOf bar → r ≡ r′
-unique-case-of bar r r′ p q = one-outcome p q
-
-pub unique-first-of : (bar : Bar) (r r′ : Float) → r ≡ firstOf bar → r′ ≡ firstOf bar → r ≡ r′
-unique-first-of bar r r′ p q = one-outcome p q
-
-pub unique-second-of : (bar : Bar) (r r′ : Float) → r ≡ secondOf bar → r′ ≡ secondOf bar → r ≡ r′
-unique-second-of bar r r′ p q = one-outcome p q
 
 pub unique-mark : (b : Book) (held : List ℕ) (side1 side2 : List ℤ) (originator reference account day period : ℕ) (r r′ : Marked)
     → r ≡ marked (bookOf b held side1 side2) (identifierOf originator reference) account day period

@@ -1,4 +1,4 @@
--- Document 01, "Matching, totals, marks": the enum of a mark with this paper's number and values for each case, and the marks of a whole day.
+-- Document 01, "Matching, totals, marks": the mark of a period, and the marks of a whole day.
 use mathlib.Core.Bool.{Bool, false, not, _&&_, _||_}
 use mathlib.Core.List.{List}
 use Prim.Native.Nat.{ℕ, suc, _+_}
@@ -15,41 +15,10 @@ use Rattle.meaning.specs.Books.{Book, hasAccount}
 use Rattle.meaning.specs.Soundness.{sound}
 use Rattle.meaning.specs.Totals.{mwh}
 use Rattle.meaning.specs.Bars as Meaning
-use Rattle.bars.specs.declared.Bar.{Bar}
-use Rattle.bars.specs.declared.Bar.the-variants.{Blank, OneSide, Agreed, Disagreed}
+use Rattle.shown.specs.Figures.{barFor, barSeen}
+use Rattle.shown.specs.declared.Bar.{Bar}
+use Rattle.shown.specs.declared.Bar.the-variants.{Blank}
 use Rattle.bars.specs.declared.Marked.{Marked}
-
--- ---- the enum
-
-abbrev pub barFor : Meaning.Bar Float → Bar
-barFor Meaning.Blank = Blank
-barFor (Meaning.OneSide x) = OneSide x
-barFor (Meaning.Agreed x) = Agreed x
-barFor (Meaning.Disagreed x y) = Disagreed x y
-
--- its number
-abbrev pub caseOf : Bar → ℕ
-caseOf Blank = 0
-caseOf (OneSide x) = 1
-caseOf (Agreed x) = 2
-caseOf (Disagreed x y) = 3
-
--- "Zero is positive zero": a figure that a case does not have
-abbrev pub noFigure : Float
-noFigure = fin false 0 (pos 0)
-
--- its values: the first figure, which is side 1's where there are two, and the second
-abbrev pub firstOf : Bar → Float
-firstOf Blank = noFigure
-firstOf (OneSide x) = x
-firstOf (Agreed x) = x
-firstOf (Disagreed x y) = x
-
-abbrev pub secondOf : Bar → Float
-secondOf Blank = noFigure
-secondOf (OneSide x) = noFigure
-secondOf (Agreed x) = noFigure
-secondOf (Disagreed x y) = y
 
 -- ---- a mark
 
@@ -93,14 +62,6 @@ dayMarked value b i account D refusal buffer =
     then overFront (periodsAt (b .time .codes) (dayOf (b .time) D)) (λ (p : ℕ). value (barFor (Meaning.mark b i account D (suc p)))) buffer
     else buffer
 
--- ---- what the two sides hold in a place, as account 1 of the pair sees it, or account 2
-
-unfoldable pub seenFrom : Bool → ℤ → ℤ
-seenFrom first v = if first then v else negℤ v
-
-unfoldable pub barSeen : Bool → ℤ → ℤ → Bar
-barSeen first v w = barFor (Meaning.mapBar mwh (Meaning.mapBar (seenFrom first) (Meaning.barOf v w)))
-
--- in the place p past `start`
+-- what the two sides hold in the place p past `start`
 unfoldable pub barFrom : Bool → List ℤ → List ℤ → ℕ → ℕ → Bar
 barFrom first side1 side2 start p = barSeen first (getD side1 (start + p) (pos 0)) (getD side2 (start + p) (pos 0))

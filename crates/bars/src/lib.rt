@@ -1,21 +1,12 @@
 // What a book shows of the positions in it ("Matching, totals, marks"): questions of a book by value and its lent tables, which change nothing.
 pub mod rows; // rows.rt: the day's row of one side
-pub mod places; // places.rt: the bar of one place, its number and its figures
 mod asking; // asking.rt: who asks for a mark, and for which period
 pub mod marks; // marks.rt: the mark of a period, and the marks of a whole day
-
-// A figure in MWh, seen from the asking account; two for Disagreed, side 1 first.
-pub enum Bar {
-    Blank,
-    OneSide(f64),
-    Agreed(f64),
-    Disagreed(f64, f64),
-}
 
 // With a refusal the bar is blank.
 pub struct Marked {
     pub answer: u8,
-    pub bar: Bar,
+    pub bar: shown::Bar,
 }
 
 // Where the day's row lies in its side's table; with a refusal both numbers are 0.

@@ -1,18 +1,18 @@
 // "Each figure on a bar .. is seen from the asking account": the mark of a period, and the marks of a whole day.
-use crate::Bar;
 use crate::Marked;
 use crate::asking;
-use crate::places;
 use crate::rows;
 use book::numbers;
 use book::state;
+use shown::Bar;
 ghost use mathlib.Core.Path.{_≡_};
 ghost use Prim.Native.Nat.{ℕ, _+_, _≤_};
 ghost use lib.ListN.{length};
 ghost use Rattle.words.specs.Rules.{answer};
 ghost use Rattle.meaning.specs.Ledgers.{identifierOf};
 ghost use Rattle.book.specs.Structs.{bookOf};
-ghost use Rattle.bars.specs.Marks.{caseOf, firstOf, secondOf, refusedMark, marked, dayMarkRules, overFront, dayMarked, barFrom};
+ghost use Rattle.shown.specs.Figures.{caseOf, firstOf, secondOf};
+ghost use Rattle.bars.specs.Marks.{refusedMark, marked, dayMarkRules, overFront, dayMarked, barFrom};
 
 // ---- a mark
 
@@ -51,7 +51,7 @@ pub fn mark(
     let place = rows::index_of(b, slot, day, period);
     let v = ledger::volume_at(side1, place);
     let w = ledger::volume_at(side2, place);
-    let bar = places::bar_of(v, w, asking::is_first(b, originator, account));
+    let bar = shown::bar_of(v, w, asking::is_first(b, originator, account));
     Marked {
         answer: 0,
         bar: bar,
@@ -80,10 +80,10 @@ fn write_marks(
     while p < count {
         let v = ledger::volume_at(side1, start + p);
         let w = ledger::volume_at(side2, start + p);
-        let bar = places::bar_of(v, w, first);
-        cases[p] = places::case_of(bar);
-        firsts[p] = places::first_of(bar);
-        seconds[p] = places::second_of(bar);
+        let bar = shown::bar_of(v, w, first);
+        cases[p] = shown::case_of(bar);
+        firsts[p] = shown::first_of(bar);
+        seconds[p] = shown::second_of(bar);
         p += 1;
     }
 }

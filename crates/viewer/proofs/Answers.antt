@@ -4,7 +4,7 @@ use Prim.Native.Nat.{ℕ}
 use lib.Ieee.{Float}
 use Rattle.meaning.specs.PackedMessages.{Packed, Reading}
 use Rattle.messages.specs.Structs.{messageFor, messageRead}
-use Rattle.bars.specs.Marks.{caseOf, firstOf, secondOf}
+use Rattle.shown.specs.Figures.{caseOf, firstOf, secondOf}
 use Rattle.bars.specs.declared.Marked.{Marked}
 use Rattle.viewer.specs.Numbers.{markNumbers}
 use Rattle.viewer.specs.declared.MarkNumbers.{MarkNumbers}

@@ -1,5 +1,5 @@
 -- Document 01, "Our forms for each place": "If an answer is an enum, a definition gives this paper's number and values for each case." A mark so.
-use Rattle.bars.specs.Marks.{caseOf, firstOf, secondOf}
+use Rattle.shown.specs.Figures.{caseOf, firstOf, secondOf}
 use Rattle.bars.specs.declared.Marked.{Marked}
 use Rattle.viewer.specs.declared.MarkNumbers.{MarkNumbers}
 

@@ -21,7 +21,8 @@ ghost use Rattle.messages.specs.Structs.{notificationOf, nullificationOf};
 ghost use Rattle.book.specs.Answers.{opened, heldOpened, sideOpened, gated};
 ghost use Rattle.calls.specs.Answers.{afterCall, notifiedOf, appliedOf, ranOf};
 ghost use Rattle.position.specs.Totals.{totalled, dayTotalRules, dayTotals, figured};
-ghost use Rattle.bars.specs.Marks.{caseOf, firstOf, secondOf, dayMarkRules, dayMarked};
+ghost use Rattle.shown.specs.Figures.{caseOf, firstOf, secondOf};
+ghost use Rattle.bars.specs.Marks.{dayMarkRules, dayMarked};
 
 #[no_mangle]
 pub extern "C" fn ghendufika_read_setup(

@@ -2,7 +2,7 @@
 // include/ghendufika.h declares these functions and names the fields.
 pub mod books; // books.rt: a book from C
 pub mod packing; // packing.rt: messages, setups and books out of packed bytes, and into them
-pub mod shown; // shown.rt: one mark, and where a row lies
+pub mod marks; // marks.rt: one mark, and where a row lies
 
 ghost use mathlib.Core.Path.{_≡_};
 ghost use Rattle.words.specs.Rules.{answer};

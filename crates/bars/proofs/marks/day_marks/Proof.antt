@@ -17,8 +17,9 @@ use Rattle.meaning.specs.Books as Books
 use Rattle.meaning.specs.Bars.{mark}
 use Rattle.book.specs.Structs.{timeIn}
 use Rattle.book.proofs.StateLaws.{clock-time}
-use Rattle.bars.specs.Marks.{barFor, caseOf, firstOf, secondOf, noFigure, askingRules, overFront, dayMarked, barFrom}
-use Rattle.bars.specs.declared.Bar.{Bar}
+use Rattle.shown.specs.Figures.{barFor, caseOf, firstOf, secondOf, noFigure}
+use Rattle.bars.specs.Marks.{askingRules, overFront, dayMarked, barFrom}
+use Rattle.shown.specs.declared.Bar.{Bar}
 use Rattle.bars.proofs.RowLaws.{before, start, slot-few, row-few}
 use Rattle.bars.proofs.MarkLaws.{Asks, asks}
 use Rattle.bars.proofs.MarkPlaces.{day-marks-at}

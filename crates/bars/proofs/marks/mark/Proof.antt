@@ -15,8 +15,9 @@ use Rattle.meaning.specs.Ledgers.{contracts, index, identifierOf, slotOf}
 use Rattle.meaning.specs.Books as Books
 use Rattle.meaning.proofs.Clock.{is-period-on}
 use Rattle.book.specs.Structs.{timeIn}
-use Rattle.bars.specs.Marks.{marked, askingRules, barSeen}
-use Rattle.bars.specs.declared.Bar.{Bar}
+use Rattle.shown.specs.Figures.{barSeen}
+use Rattle.bars.specs.Marks.{marked, askingRules}
+use Rattle.shown.specs.declared.Bar.{Bar}
 use Rattle.bars.specs.declared.Marked.{Marked}
 use Rattle.bars.proofs.RowLaws.{before, period-day, slot-few}
 use Rattle.bars.proofs.MarkLaws.{asks, mark-earlier, mark-no-period, mark-done, marked-refused}

@@ -7,8 +7,9 @@ use native.Mathlib.Omega.{arith}
 use denote.Ref.{now}
 use lib.ListN.{length, set, length-set}
 use mir.Facts.{toZ-ofZ}
-use Rattle.bars.specs.Marks.{caseOf, firstOf, secondOf, noFigure, overFront, barSeen, barFrom}
-use Rattle.bars.specs.declared.Bar.{Bar}
+use Rattle.shown.specs.Figures.{caseOf, firstOf, secondOf, noFigure, barSeen}
+use Rattle.bars.specs.Marks.{overFront, barFrom}
+use Rattle.shown.specs.declared.Bar.{Bar}
 use Rattle.bars.proofs.DayMarkLaws.{front-none, front-more}
 use Rattle.bars.proofs.marks.write_marks.Statement.{statement}
 use Rattle.bars.proofs.marks.write_marks.Tie as tie

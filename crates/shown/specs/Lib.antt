@@ -1,0 +1,2 @@
+-- What is shown of one place.
+pub mod Figures
