@@ -27,7 +27,10 @@ pub extern "C" fn ghendufika_write_message(
 }
 
 #[no_mangle]
-pub extern "C" fn ghendufika_write_setup(s: setups::Setup, out: &mut [u8]) -> packed_setups::SetupWritten
+pub extern "C" fn ghendufika_write_setup(
+    s: setups::Setup,
+    out: &mut [u8],
+) -> packed_setups::SetupWritten
     ensures { λ r. ⌜ (r ≡ setupWritten (writeSetup (setupOf s) (now (out .entry)))) × (now (out .exit) ≡ writeSetup (setupOf s) (now (out .entry)) .out) ⌝ }
 {
     packed_setups::writing::write_setup(s, out)
