@@ -11,6 +11,7 @@ use lib.Seq.{getD-set-same, getD-set-other}
 use borrow.Author.Tests.{ne-eqb, lt-ltb, le-ltb, ltb-false}
 use Rattle.words.specs.Rules.{Rule, _when_else_, done, answer}
 use Rattle.laws.proofs.Cases.{by-lt, by-eq, or-left, or-right}
+use Rattle.laws.proofs.Rules.{earlier-answers, later-answers}
 use Rattle.laws.proofs.Lists.{length-mapAt, getD-mapAt, mapAt-is, mapAt-same}
 use Rattle.meaning.specs.Time.{periodsAt, dayOf, hasDay}
 use Rattle.meaning.specs.Ledgers.{contracts}
@@ -19,7 +20,6 @@ use Rattle.meaning.specs.Bars.{mark}
 use Rattle.shown.specs.Figures.{barFor}
 use Rattle.bars.specs.Marks.{askingRules, dayMarkRules, overFront, dayMarked}
 use Rattle.shown.specs.declared.Bar.{Bar}
-use Rattle.bars.proofs.MarkLaws.{earlier-answers, later-answers}
 
 -- ---- the front of a buffer
 

@@ -13,7 +13,7 @@ use lib.Signed.{mag}
 use borrow.Author.Tests.{not-false}
 use Rattle.words.specs.Rules.{Rule, _when_else_, done, answer}
 use Rattle.laws.proofs.Cases.{on, and-left, and-right}
-use Rattle.laws.proofs.Rules.{metAt, numbered, answer-none}
+use Rattle.laws.proofs.Rules.{answer-none, earlier-answers, later-answers}
 use Rattle.meaning.specs.Time.{days, dayOf, isPeriod}
 use Rattle.meaning.specs.Authorisations.{Authorisation, rowAt, inPair}
 use Rattle.meaning.specs.Ledgers.{contracts, stands, at, originatorOf, isHeld, slotOf}
@@ -44,22 +44,6 @@ map-same f g e Meaning.Blank = refl
 map-same f g e (Meaning.OneSide v) = rw (e v)
 map-same f g e (Meaning.Agreed v) = rw (e v)
 map-same f g e (Meaning.Disagreed v w) = rw (e v, e w)
-
--- ---- rules after rules
-
--- a refusal among the first rules answers; where there is none, the later rules do
-pub earlier-answers : (rs qs : List Rule) → answer rs ≢ 0 → answer (rs ++ qs) ≡ answer rs
-unfolding answer
-earlier-answers [] qs n = absurd (n refl)
-earlier-answers (r ∷ rs) qs n = on (r .met) (λ e. rw e) (λ e. rw e (earlier-answers rs qs (rw e at n)))
-
-none-met : (rs qs : List Rule) → ((k : ℕ) → metAt rs k ≡ false) → answer (rs ++ qs) ≡ answer qs
-unfolding answer
-none-met [] qs h = refl
-none-met (r ∷ rs) qs h = rw (h 0) (none-met rs qs (λ k. h (suc k)))
-
-pub later-answers : (rs qs : List Rule) → numbered rs ≡ true → answer rs ≡ 0 → answer (rs ++ qs) ≡ answer qs
-later-answers rs qs n e = none-met rs qs (answer-none rs n e)
 
 -- ---- a mark
 

@@ -12,7 +12,7 @@ use borrow.Author.Tests.{ltb-true, lt-leb, lt-ltb, le-ltb, eqb-true, ne-eqb}
 use Rattle.words.specs.Lists.{find, mapAt}
 use Rattle.words.specs.Rules.{Rule, answer}
 use Rattle.laws.proofs.Cases.{on}
-use Rattle.laws.proofs.Rules.{metAt, answer-none}
+use Rattle.laws.proofs.Rules.{numbered, earlier-answers, later-answers}
 use Rattle.meaning.specs.Time.{Time}
 use Rattle.meaning.specs.Ledgers.{contracts, isHeld, everySlotHeld, slotFor, Side, one, two, side, places}
 use Rattle.meaning.specs.Messages as Messages
@@ -43,18 +43,6 @@ slot-full held i =
     on (ltb (find (suc i) held) (length held))
     (λ e. rw e (sym (lt-leb (length held) (find (suc i) held) (ltb-true (find (suc i) held) (length held) e))))
     (λ e. rw e)
-
--- ---- two chains, one after the other
-
-joined-refused : (xs ys : List Rule) → answer xs ≢ 0 → answer (xs ++ ys) ≡ answer xs
-unfolding answer
-joined-refused [] ys n = absurd (n refl)
-joined-refused (r ∷ rs) ys n = on (r .met) (λ w. rw w) (λ w. rw w (joined-refused rs ys (rw w at n)))
-
-joined-passed : (xs ys : List Rule) → ((k : ℕ) → metAt xs k ≡ false) → answer (xs ++ ys) ≡ answer ys
-unfolding answer
-joined-passed [] ys h = refl
-joined-passed (r ∷ rs) ys h = rw (h 0) (joined-passed rs ys (λ k. h (suc k)))
 
 -- ---- its answer
 
@@ -87,14 +75,14 @@ module _ (b : Meaning.Book contracts) (n : Messages.Notification contracts) wher
   split e = passes (notificationRules b n) 0 refl (ap not e)
 
   pub early-answer : sound b ≡ true → answer (checkRules b n) ≢ 0 → answer (notificationRules b n) ≡ answer (checkRules b n)
-  early-answer e q = split e ∙ joined-refused (checkRules b n) (drop 11 (notificationRules b n)) q
+  early-answer e q = split e ∙ earlier-answers (checkRules b n) (drop 11 (notificationRules b n)) q
 
-  checks-passed : answer (checkRules b n) ≡ 0 → (k : ℕ) → metAt (checkRules b n) k ≡ false
+  numbered-checks : numbered (checkRules b n) ≡ true
   unfolding checkRules
-  checks-passed e = answer-none (checkRules b n) refl e
+  numbered-checks = refl
 
   pub late-answer : sound b ≡ true → answer (checkRules b n) ≡ 0 → answer (notificationRules b n) ≡ lateAnswer
-  late-answer e q = split e ∙ joined-passed (checkRules b n) (drop 11 (notificationRules b n)) (checks-passed q) ∙ last-three
+  late-answer e q = split e ∙ later-answers (checkRules b n) (drop 11 (notificationRules b n)) numbered-checks q ∙ last-three
 
   pub late-same : (k t s : ℕ) → k ≡ kindNumber (kindOf b n) → t ≡ under b n .type → s ≡ slotFor (b .ledger .held) (n .identifier)
       → answer (lateRules k t s (length (b .ledger .held))) ≡ lateAnswer
