@@ -15,7 +15,7 @@ use Rattle.setups.specs.declared.Setup.{Setup}
 use Rattle.setups.specs.Structs.{rowOf, rowFor, setupOf}
 use Rattle.clock.specs.declared.Clock.{Clock}
 use Rattle.book.specs.Answers.{nextAnswer, gated, opened, heldOpened, sideOpened}
-use Rattle.book.specs.Structs.{clockIn, rowsIn, bookOf}
+use Rattle.book.specs.Structs.{clockIn, rowsIn, originPlace, originRow, bookOf}
 use Rattle.book.specs.declared.Book.{Book}
 use Rattle.book.specs.declared.Gated.{Gated}
 use Rattle.book.specs.declared.Opened.{Opened}
@@ -27,6 +27,12 @@ unique-clock-of b r r′ p q = one-outcome p q
 -- a row is all that its struct has
 pub unique-row-of : (b : Book) (k : ℕ) (r r′ : Authorisation) → rowOf r ≡ rowAt (rowsIn (b .setup)) k → rowOf r′ ≡ rowAt (rowsIn (b .setup)) k → r ≡ r′
 unique-row-of b k r r′ p q = ap rowFor (one-outcome p q)
+
+pub unique-origin-place : (entry r r′ : ℕ) → r ≡ originPlace entry → r′ ≡ originPlace entry → r ≡ r′
+unique-origin-place entry r r′ p q = one-outcome p q
+
+pub unique-origin-row : (authorisations entry : ℕ) (row r r′ : Authorisation) → r ≡ originRow authorisations entry row → r′ ≡ originRow authorisations entry row → r ≡ r′
+unique-origin-row authorisations entry row r r′ p q = one-outcome p q
 
 pub unique-is-sound : (b : Book) (held : List ℕ) (side1 side2 : List ℤ) (r r′ : Bool)
     → r ≡ sound (bookOf b held side1 side2) → r′ ≡ sound (bookOf b held side1 side2) → r ≡ r′

@@ -5,9 +5,11 @@ ghost use mathlib.Core.Path.{_≡_};
 ghost use Rattle.meaning.specs.Soundness.{sound};
 ghost use Rattle.meaning.specs.Authorisations.{rowAt};
 ghost use Rattle.setups.specs.Structs.{rowOf};
-ghost use Rattle.book.specs.Structs.{clockIn, rowsIn, bookOf};
+ghost use Rattle.book.specs.Structs.{clockIn, rowsIn, originPlace, originRow, bookOf};
 
 const MOST_ROWS: u32 = 64;
+
+const LAST_ROW: usize = 63;
 
 // The days and the gates closed, for the questions of `clock`.
 pub fn clock_of(b: Book) -> clock::Clock
@@ -42,6 +44,50 @@ pub fn row_of(b: Book, k: u32) -> setups::Authorisation
         row = s.rows[k as usize];
     }
     row
+}
+
+// Where the array of authorisations would have the originating one of the identifier that an entry of `held` holds; a place of the array in any
+// case. Reading the array by such a place copies one row, where `row_of` copies all of them.
+pub fn origin_place(entry: u32) -> usize
+    ensures { λ r. ⌜ r ≡ originPlace entry ⌝ }
+{
+    if entry == 0 {
+        return 0;
+    }
+    let k = ((entry - 1) / ledger::REFERENCES) as usize;
+    if k < LAST_ROW {
+        return k;
+    }
+    LAST_ROW
+}
+
+// The originating authorisation of the identifier that an entry holds, where the array has `row` at that place; all zero where the entry holds none,
+// or a book of so many authorisations has none of that number.
+pub fn origin_row(
+    authorisations: u8,
+    entry: u32,
+    row: setups::Authorisation,
+) -> setups::Authorisation
+    ensures { λ r. ⌜ r ≡ originRow authorisations entry row ⌝ }
+{
+    let none = setups::Authorisation {
+        agent1: 0,
+        agent2: 0,
+        account1: 0,
+        account2: 0,
+        key: 0,
+        first: 0,
+        last: 0,
+        amendment: 0,
+    };
+    if entry == 0 {
+        return none;
+    }
+    let k = (entry - 1) / ledger::REFERENCES;
+    if (k < authorisations as u32) & (k < MOST_ROWS) {
+        return row;
+    }
+    none
 }
 
 // "setup rules hold; gates closed do not exceed the periods; held identifiers differ and name known originators; each volume is in range or the

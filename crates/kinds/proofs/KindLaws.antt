@@ -16,8 +16,8 @@ use Rattle.words.specs.Lists.{find}
 use Rattle.laws.proofs.Cases.{on, by-lt, and-left, and-right, and-false, and-true, both}
 use Rattle.laws.proofs.Below.{some-more, some-hit, some-miss, some-all}
 use Rattle.meaning.specs.Time.{Time, periodsAt, gatesBefore, isOpenAt, days, dayNumber}
-use Rattle.meaning.specs.Authorisations.{rowAt, sameAccounts}
-use Rattle.meaning.specs.Ledgers.{contracts, one, two, index, at, originatorOf, isHeld, places}
+use Rattle.meaning.specs.Authorisations.{sameAccounts}
+use Rattle.meaning.specs.Ledgers.{contracts, one, two, index, at, originIn, isHeld, places}
 use Rattle.meaning.specs.Messages.{Notification, writes}
 use Rattle.meaning.specs.Books as Books
 use Rattle.meaning.specs.Notifications.{under, statesAt, statesOn, statesOpenOn, isReplacement, isOther, overlaps, isAdditional, kindOf, kindNumber}
@@ -117,7 +117,7 @@ module _ (b : Book) (held : List ℕ) (side1 side2 : List ℤ) (n : Notification
 
 -- an entry that is not 0 holds the number before it
 pub other-held : (b : Books.Book contracts) (n : Notification contracts) (entry : ℕ) → entry ≢ 0
-    → isOther b n entry ≡ not ((entry - 1) =? n .identifier) && sameAccounts (rowAt (b .rows) (originatorOf (entry - 1))) (under b n)
+    → isOther b n entry ≡ not ((entry - 1) =? n .identifier) && sameAccounts (originIn (b .rows) entry) (under b n)
 unfolding isOther
 other-held b n zero h = absurd (h refl)
 other-held b n (suc i) h = let q : suc i - 1 ≡ i = omega arith in rw q

@@ -3,7 +3,7 @@ use book::Book;
 use book::state;
 ghost use mathlib.Core.List.{[]};
 ghost use mathlib.Core.Path.{_≡_};
-ghost use Prim.Native.Nat.{_-_, _/_, min};
+ghost use Prim.Native.Nat.{_-_};
 ghost use lib.ListN.{length, getD};
 ghost use Rattle.words.specs.Below.{someBelow};
 ghost use Rattle.meaning.specs.Time.{gatesBefore};
@@ -13,7 +13,7 @@ ghost use Rattle.meaning.specs.Messages.{writes};
 ghost use Rattle.meaning.specs.Notifications.{isReplacement, isOther, overlaps, kindOf, kindNumber};
 ghost use Rattle.messages.specs.Structs.{notificationOf};
 ghost use Rattle.setups.specs.Structs.{noAuthorisation, rowOf};
-ghost use Rattle.book.specs.Structs.{timeIn, rowsIn, bookOf};
+ghost use Rattle.book.specs.Structs.{timeIn, rowsIn, originPlace, bookOf};
 ghost use Rattle.kinds.specs.Kinds.{Fits, Inside, placeOf, statesPlace, periodsFrom, periodsWithin, SlotInside, fromFirst, fits, kindAnswer};
 
 const INITIAL: u8 = 1;
@@ -21,10 +21,6 @@ const INITIAL: u8 = 1;
 const REPLACEMENT: u8 = 2;
 
 const ADDITIONAL: u8 = 3;
-
-const MOST_ROWS: u32 = 64;
-
-const LAST_ROW: usize = 63;
 
 // The notification writes side 1: it is sent by agent 1.
 pub fn writes_side1(b: Book, n: messages::Notification) -> bool
@@ -42,40 +38,6 @@ pub fn writes_side2(b: Book, n: messages::Notification) -> bool
     n.agent == row.agent2
 }
 
-// Where the authorisations would have the originating one of the identifier that an entry of `held` holds; a place of the array in any case.
-fn origin_place(entry: u32) -> usize
-    ensures { λ r. ⌜ r ≡ min ((entry - 1) / 65536) 63 ⌝ }
-{
-    if entry == 0 {
-        return 0;
-    }
-    let k = ((entry - 1) / ledger::REFERENCES) as usize;
-    if k < LAST_ROW {
-        return k;
-    }
-    LAST_ROW
-}
-
-// The authorisation of a number, where the array has `row` at that place; all zero where the book has none.
-fn known_row(b: Book, k: u32, row: setups::Authorisation) -> setups::Authorisation
-    requires { ⌜ row ≡ getD (b .setup .rows) (min k 63) noAuthorisation ⌝ }
-    ensures { λ r. ⌜ rowOf r ≡ rowAt (rowsIn (b .setup)) k ⌝ }
-{
-    if (k < b.setup.authorisations as u32) & (k < MOST_ROWS) {
-        return row;
-    }
-    setups::Authorisation {
-        agent1: 0,
-        agent2: 0,
-        account1: 0,
-        account2: 0,
-        key: 0,
-        first: 0,
-        last: 0,
-        amendment: 0,
-    }
-}
-
 // A slot, by its entry, holds another identifier of the same account 1 and account 2. Both rows are handed over, since reading one out of a book copies
 // all of them.
 fn is_other(
@@ -85,7 +47,7 @@ fn is_other(
     row: setups::Authorisation,
     mine: setups::Authorisation,
 ) -> bool
-    requires { ⌜ (row ≡ getD (b .setup .rows) (min ((entry - 1) / 65536) 63) noAuthorisation) × (rowOf mine ≡ rowAt (rowsIn (b .setup)) (n .authorisation)) ⌝ }
+    requires { ⌜ (row ≡ getD (b .setup .rows) (originPlace entry) noAuthorisation) × (rowOf mine ≡ rowAt (rowsIn (b .setup)) (n .authorisation)) ⌝ }
     ensures { λ r. ⌜ r ≡ isOther (bookOf b [] [] []) (notificationOf n) entry ⌝ }
 {
     if entry == 0 {
@@ -93,7 +55,7 @@ fn is_other(
     }
     let identifier = entry - 1;
     let own = n.originator as u32 * ledger::REFERENCES + n.reference as u32;
-    let origin = known_row(b, identifier / ledger::REFERENCES, row);
+    let origin = state::origin_row(b.setup.authorisations, entry, row);
     (identifier != own) & ((origin.account1 == mine.account1) & (origin.account2 == mine.account2))
 }
 
@@ -171,7 +133,7 @@ fn is_overlapped(
     let mut found = false;
     'search: for s in 0..held.len() {
         let entry = held[s];
-        let row = setup.rows[origin_place(entry)];
+        let row = setup.rows[state::origin_place(entry)];
         if is_other(b, n, entry, row, mine) {
             for d in 0..days {
                 let first = first_open(b, d);

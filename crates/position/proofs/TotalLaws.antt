@@ -3,7 +3,7 @@ use mathlib.Core.Bool.{true, false}
 use mathlib.Core.List.{List}
 use mathlib.Core.Logic.{_≢_}
 use mathlib.Core.Path.{_≡_, refl, sym, ap, _∙_}
-use Prim.Native.Nat.{ℕ, zero, suc, _+_, _-_, _*_, _/_, _≤_, _<_}
+use Prim.Native.Nat.{ℕ, suc, _+_, _*_, _≤_, _<_}
 use native.Mathlib.Nat.{mul-le-mul}
 use native.Mathlib.Omega.{arith}
 use lib.Dec.{leb, ltb}
@@ -17,8 +17,7 @@ use Rattle.laws.proofs.Cases.{on, by-lt, and-left, and-right}
 use Rattle.laws.proofs.Lists.{upto, mapAt-same}
 use Rattle.laws.proofs.Rules.{answer-none}
 use Rattle.meaning.specs.Time.{periodsAt, isPeriodAt, days, dayOf, hasDay, isPeriod}
-use Rattle.meaning.specs.Authorisations.{Authorisation, rowAt}
-use Rattle.meaning.specs.Ledgers.{contracts, index, at, originatorOf, originIn}
+use Rattle.meaning.specs.Ledgers.{contracts, index, at, originIn}
 use Rattle.meaning.specs.Books as Meaning
 use Rattle.meaning.specs.Books.{hasAccount}
 use Rattle.meaning.specs.Soundness.{sound}
@@ -34,12 +33,6 @@ use Rattle.position.specs.Totals.{totalled, dayPeriods, dayTotalRules, p
 use Rattle.position.specs.declared.Totalled.{Totalled}
 
 -- ---- what a slot counts
-
--- the originating authorisation of an identifier that is held
-pub origin-held : (rows : List Authorisation) (entry : ℕ) → 0 < entry → originIn rows entry ≡ rowAt rows ((entry - 1) / 65536)
-unfolding originatorOf
-origin-held rows zero h = absurd (omega arith)
-origin-held rows (suc i) h = let e : suc i - 1 ≡ i = omega arith in rw e
 
 -- where a place is, its period counted from 0
 pub product-few : (slot n : ℕ) → slot ≤ 255 → n ≤ 255 → slot * n ≤ 65025

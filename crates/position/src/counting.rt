@@ -3,30 +3,11 @@ ghost use mathlib.Core.Path.{_≡_};
 ghost use Prim.Native.Nat.{suc, _≤_};
 ghost use lib.IntN.{natAbs};
 ghost use Rattle.words.specs.Rules.{answer};
-ghost use Rattle.meaning.specs.Ledgers.{index, originIn};
+ghost use Rattle.meaning.specs.Ledgers.{index};
 ghost use Rattle.meaning.specs.Totals.{matches, seenBy, figuresRules};
 ghost use Rattle.setups.specs.Structs.{rowOf};
-ghost use Rattle.book.specs.Structs.{rowsIn, bookOf};
+ghost use Rattle.book.specs.Structs.{bookOf};
 ghost use Rattle.position.specs.Counting.{countedAt};
-
-// The originating authorisation of the identifier that an entry of `held` holds; all zero where it holds none.
-pub fn origin_of(b: book::Book, entry: u32) -> setups::Authorisation
-    ensures { λ r. ⌜ rowOf r ≡ originIn (rowsIn (b .setup)) entry ⌝ }
-{
-    if entry == 0 {
-        return setups::Authorisation {
-            agent1: 0,
-            agent2: 0,
-            account1: 0,
-            account2: 0,
-            key: 0,
-            first: 0,
-            last: 0,
-            amendment: 0,
-        };
-    }
-    book::state::row_of(b, (entry - 1) / ledger::REFERENCES)
-}
 
 // Where a side's table has a slot's volume on the day at place d in the period at place p, both from 0.
 pub fn place_of(slot: u8, days: u8, d: u8, p: u8) -> usize

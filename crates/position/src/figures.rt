@@ -68,15 +68,16 @@ fn day_sum(
     requires { ⌜ length (now held) ≤ 256 ⌝ }
     ensures { λ r. ⌜ (r ≡ daySum (partOf below) (bookOf b (now (held .entry)) (now (side1 .entry)) (now (side2 .entry))) account d) × (natAbs r ≤ 27487790694400) ⌝ }
 {
-    let s = b.setup;
+    let rows = b.setup.rows;
     let periods = clock::periods_at(book::state::clock_of(b), d);
     let mut kwh: i64 = 0;
     let mut slot: usize = 0;
     while slot < held.len() {
         let entry = held[slot];
-        let row = counting::origin_of(b, entry);
-        let first = counting::place_of(slot as u8, s.days, d, 0);
-        kwh += slot_sum(row, account, side1, side2, first, periods, below);
+        let row = rows[book::state::origin_place(entry)];
+        let origin = book::state::origin_row(b.setup.authorisations, entry, row);
+        let first = counting::place_of(slot as u8, b.setup.days, d, 0);
+        kwh += slot_sum(origin, account, side1, side2, first, periods, below);
         slot += 1;
     }
     kwh

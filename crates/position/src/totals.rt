@@ -45,14 +45,15 @@ fn sum_of(
     requires { ⌜ length (now held) ≤ 256 ⌝ }
     ensures { λ r. ⌜ r ≡ sumOf (bookOf b (now (held .entry)) (now (side1 .entry)) (now (side2 .entry))) account d (suc p) ⌝ }
 {
-    let s = b.setup;
+    let rows = b.setup.rows;
     let mut kwh: i64 = 0;
     let mut slot: usize = 0;
     while slot < held.len() {
         let entry = held[slot];
-        let row = counting::origin_of(b, entry);
-        let place = counting::place_of(slot as u8, s.days, d, p);
-        kwh += counting::counted_at(row, account, side1, side2, place);
+        let row = rows[book::state::origin_place(entry)];
+        let origin = book::state::origin_row(b.setup.authorisations, entry, row);
+        let place = counting::place_of(slot as u8, b.setup.days, d, p);
+        kwh += counting::counted_at(origin, account, side1, side2, place);
         slot += 1;
     }
     kwh

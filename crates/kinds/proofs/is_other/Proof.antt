@@ -2,14 +2,16 @@
 use borrow.Author.Needs.{needs}
 use mathlib.Core.Bool.{not, _&&_}
 use mathlib.Core.List.{[]}
-use mathlib.Core.Path.{sym, ap₂, _∙_}
+use mathlib.Core.Path.{_≡_, refl, sym, ap, ap₂, _∙_}
 use Prim.Native.Nat.{_+_, _-_, _*_}
+use lib.ListN.{getD}
 use Rattle.words.specs.Tests.{_=?_}
 use Rattle.meaning.specs.Authorisations.{Authorisation, sameAccounts}
-use Rattle.meaning.specs.Ledgers.{originatorOf}
 use Rattle.meaning.specs.Notifications.{isOther}
 use Rattle.messages.specs.Structs.{notificationOf}
-use Rattle.book.specs.Structs.{bookOf}
+use Rattle.setups.specs.Structs.{noAuthorisation}
+use Rattle.book.specs.Structs.{originPlace, originRow, bookOf}
+use Rattle.book.proofs.StateLaws.{rows-length, origin-read}
 use Rattle.kinds.proofs.KindLaws.{other-held}
 use Rattle.kinds.proofs.is_other.Statement.{statement}
 use Rattle.kinds.proofs.is_other.Tie as tie
@@ -33,16 +35,20 @@ cast-own-2 c = search needs
 add-own : tie.Need-add-own
 add-own c = search needs
 
-known-row-requires : tie.Need-known-row-requires
-known-row-requires c κs = c .before .before .before .pre .0
+origin-row-requires : tie.Need-origin-row-requires
+origin-row-requires c κs = search needs
 
 returns-2 : tie.Need-returns-2
-unfolding notificationOf originatorOf
+unfolding notificationOf
 returns-2 c =
-    let start = c .before .before .before .before .before .before .before .before in
+    let called = c .before .before .before .before in
+    let start = called .before .before .before .before in
     let a = start .args in
-    ap₂ (λ (o m : Authorisation). not ((a .entry - 1) =? (a .n .originator * 65536 + a .n .reference)) && sameAccounts o m) (c .before .before .before .before .known-row .ensures) (start .pre .1)
-    ∙ sym (other-held (bookOf (a .b) [] [] []) (notificationOf (a .n)) (a .entry) (c .before .before .before .before .before .before .before .if1 .left))
+    let read : called .origin-row .result ≡ originRow (a .b .setup .authorisations) (a .entry) (getD (a .b .setup .rows) (originPlace (a .entry)) noAuthorisation) =
+    called .origin-row .ensures ∙ ap (originRow (a .b .setup .authorisations) (a .entry)) (start .pre .0) in
+    ap₂ (λ (o m : Authorisation). not ((a .entry - 1) =? (a .n .originator * 65536 + a .n .reference)) && sameAccounts o m)
+    (origin-read (a .b .setup) (a .entry) (rows-length (a .b) (start .good .0)) refl read) (start .pre .1)
+    ∙ sym (other-held (bookOf (a .b) [] [] []) (notificationOf (a .n)) (a .entry) (called .before .before .before .if1 .left))
 
 pub is-other-spec : {M : Type 1} → statement M
 is-other-spec =
@@ -54,5 +60,5 @@ is-other-spec =
     mul-own
     cast-own-2
     add-own
-    known-row-requires
+    origin-row-requires
     returns-2)

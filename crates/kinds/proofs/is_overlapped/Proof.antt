@@ -15,6 +15,7 @@ use Rattle.messages.specs.Structs.{notificationOf}
 use Rattle.setups.specs.Structs.{noAuthorisation}
 use Rattle.setups.proofs.SetupHeld.{codes-own}
 use Rattle.book.specs.Structs.{bookOf, timeIn}
+use Rattle.book.proofs.StateLaws.{place-few}
 use Rattle.kinds.specs.Kinds.{periodsWithin}
 use Rattle.kinds.proofs.KindLaws.{some-keep, some-upto, onPeriod, onDay, slot-skip, slot-miss, slot-hit, day-miss, day-hit, closed-miss, open-states, within-few, slot-inside, place-inside, other-any}
 use Rattle.kinds.proofs.is_overlapped.Statement.{statement}
@@ -68,11 +69,11 @@ origin-place-requires :
 origin-place-requires c κs = search needs
 
 mul-row : tie.Need-mul-row Inv-loop2 μ-loop2 Inv-loop μ-loop Inv-search μ-search
-mul-row c = omega (arith, c .origin-place .ensures)
+mul-row c = omega (arith, place-few _ (c .origin-place .ensures))
 
 element-copy-out-row :
     tie.Need-element-copy-out-row Inv-loop2 μ-loop2 Inv-loop μ-loop Inv-search μ-search
-element-copy-out-row c = omega (arith, c .origin-place .ensures)
+element-copy-out-row c = omega (arith, place-few _ (c .origin-place .ensures))
 
 is-other-requires :
     tie.Need-is-other-requires Inv-loop2 μ-loop2 Inv-loop μ-loop Inv-search μ-search

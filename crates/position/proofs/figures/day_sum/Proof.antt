@@ -13,7 +13,7 @@ use Rattle.meaning.specs.Totals.{counted, daySum}
 use Rattle.meaning.proofs.Clock.{periods-le}
 use Rattle.setups.specs.Structs.{rowOf}
 use Rattle.book.specs.Structs.{timeIn, bookOf}
-use Rattle.book.proofs.StateLaws.{clock-time, days-few}
+use Rattle.book.proofs.StateLaws.{clock-time, days-few, rows-length, place-few, origin-read}
 use Rattle.position.specs.Counting.{partOf}
 use Rattle.position.proofs.TotalLaws.{product-few, place-is}
 use Rattle.position.proofs.FigureLaws.{slot-parts}
@@ -21,12 +21,12 @@ use Rattle.position.proofs.figures.day_sum.Statement.{statement}
 use Rattle.position.proofs.figures.day_sum.Tie as tie
 
 abbrev Inv-loop : tie.InvT-loop
-Inv-loop b held side1 side2 account d below s periods kwh₀ slot₀ kwh slot =
+Inv-loop b held side1 side2 account d below rows periods kwh₀ slot₀ kwh slot =
     (slot ≤ length held)
     × Gathered slot 107374182400 (λ (k : ℕ). sumBelowℤ periods (λ (p : ℕ). partOf below (counted (bookOf b held side1 side2) account d (suc p) k))) kwh
 
 abbrev μ-loop : tie.MeasureT-loop
-μ-loop b held side1 side2 account d below s periods kwh₀ slot₀ kwh slot = length held - slot
+μ-loop b held side1 side2 account d below rows periods kwh₀ slot₀ kwh slot = length held - slot
 
 clock-of-requires : tie.Need-clock-of-requires Inv-loop μ-loop
 clock-of-requires c κs = search needs
@@ -49,8 +49,17 @@ mul-entry c = search needs
 shared-slice-read-entry : tie.Need-shared-slice-read-entry Inv-loop μ-loop
 shared-slice-read-entry c = search needs
 
-origin-of-requires : tie.Need-origin-of-requires Inv-loop μ-loop
-origin-of-requires c κs = search needs
+origin-place-requires : tie.Need-origin-place-requires Inv-loop μ-loop
+origin-place-requires c κs = search needs
+
+mul-row : tie.Need-mul-row Inv-loop μ-loop
+mul-row c = omega (arith, place-few _ (c .origin-place .ensures))
+
+array-copy-out-row : tie.Need-array-copy-out-row Inv-loop μ-loop
+array-copy-out-row c = place-few _ (c .origin-place .ensures)
+
+origin-row-requires : tie.Need-origin-row-requires Inv-loop μ-loop
+origin-row-requires c κs = search needs
 
 cast-place-of : tie.Need-cast-place-of Inv-loop μ-loop
 cast-place-of c = omega arith
@@ -60,7 +69,7 @@ place-of-requires c κs = search needs
 
 slot-sum-requires : tie.Need-slot-sum-requires Inv-loop μ-loop
 slot-sum-requires c κs =
-    let l = c .before .before .before .before in
+    let l = c .before .before .before .before .before .before in
     let s = l .before .before .before .before .before in
     let days = s .args .b .setup .days in
     let few = days-few (s .args .b) (s .good .0) in
@@ -72,7 +81,7 @@ slot-sum-requires c κs =
 -- a turn: the slot's parts
 module _ (c : tie.After-slot-sum Inv-loop μ-loop) where
   abbrev at-loop : tie.At-loop Inv-loop μ-loop
-  at-loop = c .before .before .before .before .before
+  at-loop = c .before .before .before .before .before .before .before
 
   abbrev sums : ℕ → ℤ
   sums =
@@ -81,10 +90,12 @@ module _ (c : tie.After-slot-sum Inv-loop μ-loop) where
 
   term : c .slot-sum .result ≡ sums (at-loop .loop .slot)
   term =
-      let a = at-loop .before .before .before .before .before .args in
+      let s = at-loop .before .before .before .before .before in
+      let a = s .args in
+      let origin = origin-read (a .b .setup) _ (rows-length (a .b) (s .good .0)) (c .before .before .before .before .origin-place .ensures) (c .before .before .origin-row .ensures) in
       c .slot-sum .ensures .0
       ∙ slot-parts (a .b) (now (a .held)) (now (a .side1)) (now (a .side2)) (a .account) (a .d) (at-loop .loop .slot) (at-loop .before .periods-at .result) (a .below)
-      (rowOf (c .before .before .origin-of .result)) (c .before .place-of .result) (c .before .before .origin-of .ensures) (c .before .place-of .ensures)
+      (rowOf (c .before .before .origin-row .result)) (c .before .place-of .result) origin (c .before .place-of .ensures)
 
   small : natAbs (sums (at-loop .loop .slot)) ≤ 107374182400
   small = rw (← term) (c .slot-sum .ensures .1)
@@ -121,7 +132,10 @@ day-sum-spec =
     loop-holds
     mul-entry
     shared-slice-read-entry
-    origin-of-requires
+    origin-place-requires
+    mul-row
+    array-copy-out-row
+    origin-row-requires
     cast-place-of
     place-of-requires
     slot-sum-requires

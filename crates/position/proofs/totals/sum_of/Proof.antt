@@ -9,17 +9,18 @@ use lib.ListN.{length}
 use Rattle.laws.proofs.Machine.{Gathered, gathered-none, gathered-reads, gathered-fits, gathered-more}
 use Rattle.meaning.specs.Totals.{counted, sumOf}
 use Rattle.book.specs.Structs.{bookOf}
+use Rattle.book.proofs.StateLaws.{rows-length, place-few, origin-read}
 use Rattle.position.specs.Counting.{countedAt}
 use Rattle.position.proofs.TotalLaws.{counted-by-place}
 use Rattle.position.proofs.totals.sum_of.Statement.{statement}
 use Rattle.position.proofs.totals.sum_of.Tie as tie
 
 abbrev Inv-loop : tie.InvT-loop
-Inv-loop b held side1 side2 account d p s kwh₀ slot₀ kwh slot =
+Inv-loop b held side1 side2 account d p rows kwh₀ slot₀ kwh slot =
     (slot ≤ length held) × Gathered slot 2147483648 (counted (bookOf b held side1 side2) account d (suc p)) kwh
 
 abbrev μ-loop : tie.MeasureT-loop
-μ-loop b held side1 side2 account d p s kwh₀ slot₀ kwh slot = length held - slot
+μ-loop b held side1 side2 account d p rows kwh₀ slot₀ kwh slot = length held - slot
 
 loop-holds : tie.Need-loop-holds Inv-loop μ-loop
 loop-holds c = (omega arith, gathered-none _ _)
@@ -30,8 +31,17 @@ mul-entry c = search needs
 shared-slice-read-entry : tie.Need-shared-slice-read-entry Inv-loop μ-loop
 shared-slice-read-entry c = search needs
 
-origin-of-requires : tie.Need-origin-of-requires Inv-loop μ-loop
-origin-of-requires c κs = search needs
+origin-place-requires : tie.Need-origin-place-requires Inv-loop μ-loop
+origin-place-requires c κs = search needs
+
+mul-row : tie.Need-mul-row Inv-loop μ-loop
+mul-row c = omega (arith, place-few _ (c .origin-place .ensures))
+
+array-copy-out-row : tie.Need-array-copy-out-row Inv-loop μ-loop
+array-copy-out-row c = place-few _ (c .origin-place .ensures)
+
+origin-row-requires : tie.Need-origin-row-requires Inv-loop μ-loop
+origin-row-requires c κs = search needs
 
 cast-place-of : tie.Need-cast-place-of Inv-loop μ-loop
 cast-place-of c = omega arith
@@ -45,7 +55,7 @@ counted-at-requires c κs = search needs
 -- a turn: what the slot counts
 module _ (c : tie.After-counted-at Inv-loop μ-loop) where
   abbrev at-loop : tie.At-loop Inv-loop μ-loop
-  at-loop = c .before .before .before .before .before
+  at-loop = c .before .before .before .before .before .before .before
 
   abbrev start : tie.Start Inv-loop μ-loop
   start = at-loop .before .before .before
@@ -58,8 +68,9 @@ module _ (c : tie.After-counted-at Inv-loop μ-loop) where
   term : c .counted-at .result ≡ counts (at-loop .loop .slot)
   term =
       let a = start .args in
+      let origin = origin-read (a .b .setup) _ (rows-length (a .b) (start .good .0)) (c .before .before .before .before .origin-place .ensures) (c .before .before .origin-row .ensures) in
       c .counted-at .ensures .0
-      ∙ (λ i. countedAt (c .before .before .origin-of .ensures i) (a .account) (now (a .side1)) (now (a .side2)) (c .before .place-of .ensures i))
+      ∙ (λ i. countedAt (origin i) (a .account) (now (a .side1)) (now (a .side2)) (c .before .place-of .ensures i))
       ∙ sym (counted-by-place (a .b) (now (a .held)) (now (a .side1)) (now (a .side2)) (a .account) (a .d) (a .p) (at-loop .loop .slot))
 
   small : natAbs (counts (at-loop .loop .slot)) ≤ 2147483648
@@ -94,7 +105,10 @@ sum-of-spec =
     loop-holds
     mul-entry
     shared-slice-read-entry
-    origin-of-requires
+    origin-place-requires
+    mul-row
+    array-copy-out-row
+    origin-row-requires
     cast-place-of
     place-of-requires
     counted-at-requires
