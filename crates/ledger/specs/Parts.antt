@@ -20,6 +20,10 @@ blank v = not (stands contracts v)
 unfoldable pub right : ℤ → Bool
 right v = blank v || within 99999999 v
 
+-- an entry that is not this one
+abbrev pub other : ℕ → ℕ → Bool
+other entry x = not (x =? entry)
+
 -- the 50 places of a slot's day from `base` on
 unfoldable pub rowRight : List ℤ → ℕ → ℕ → Bool → Bool
 rowRight side base periods held =

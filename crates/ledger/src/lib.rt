@@ -1,7 +1,7 @@
 // The lent tables of a book: what a place holds, the identifiers that are held, and the soundness of both (meaning, Ledgers.antt and Soundness.antt).
 ghost use mathlib.Core.Bool.{not, _||_};
 ghost use mathlib.Core.Path.{_≡_};
-ghost use Prim.Native.Nat.{ℕ, _+_, _-_, _≤_, min};
+ghost use Prim.Native.Nat.{ℕ, _+_, _-_, _≤_, _<_, min};
 ghost use lib.IntN.{pos};
 ghost use lib.ListN.{length, getD, replicate};
 ghost use lib.Seq.{sets};
@@ -9,7 +9,7 @@ ghost use Rattle.words.specs.Below.{everyBelow};
 ghost use Rattle.words.specs.Lists.{find};
 ghost use Rattle.meaning.specs.Ledgers.{contracts, stands, theMark};
 ghost use Rattle.meaning.specs.Soundness.{slotRight, heldRight};
-ghost use Rattle.ledger.specs.Parts.{blank, right, rowRight, daysRight, SlotInside, sideRight};
+ghost use Rattle.ledger.specs.Parts.{blank, right, other, rowRight, daysRight, SlotInside, sideRight};
 
 // "the mark -2,147,483,648 means nothing stands"
 pub const MARK: i32 = -2147483648;
@@ -102,16 +102,28 @@ pub fn slot_with(held: &[u32], entry: u32) -> usize
     k
 }
 
-// The slot is unheld, or its identifier names a known originator and stands in no slot before.
-fn slot_right(held: &[u32], known: usize, k: usize, entry: u32) -> bool
-    ensures { λ r. ⌜ r ≡ slotRight known (now (held .entry)) k entry ⌝ }
+// No place of the part holds the entry. No branch, so that the scan runs on vectors.
+fn none_holds(part: &[u32], entry: u32) -> bool
+    ensures { λ r. ⌜ r ≡ everyBelow (length (now (part .entry))) (λ (k : ℕ). other entry (getD (now (part .entry)) k 0)) ⌝ }
 {
+    let mut ok = true;
+    for k in 0..part.len() {
+        ok = ok & (part[k] != entry);
+    }
+    ok
+}
+
+// The slot is unheld, or its identifier names a known originator and stands in no slot before.
+fn slot_right(held: &[u32], known: usize, k: usize) -> bool
+    requires { ⌜ k < length (now held) ⌝ }
+    ensures { λ r. ⌜ r ≡ slotRight known (now (held .entry)) k (getD (now (held .entry)) k 0) ⌝ }
+{
+    let entry = held[k];
     if entry == 0 {
         return true;
     }
     let originator = ((entry - 1) / REFERENCES) as usize;
-    let first = slot_with(held, entry);
-    (originator < known) & (first == k)
+    (originator < known) & none_holds(&held[0..k], entry)
 }
 
 // Held identifiers differ and name known originators.
@@ -120,8 +132,7 @@ pub fn held_right(held: &[u32], known: usize) -> bool
 {
     let mut ok = true;
     for k in 0..held.len() {
-        let entry = held[k];
-        ok = ok & slot_right(held, known, k, entry);
+        ok = ok & slot_right(held, known, k);
     }
     ok
 }

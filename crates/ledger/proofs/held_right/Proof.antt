@@ -23,12 +23,6 @@ abbrev μ-loop : tie.MeasureT-loop
 loop-holds : tie.Need-loop-holds Inv-loop μ-loop
 loop-holds c = (refl, omega arith, sym (every-none _))
 
-mul-entry : tie.Need-mul-entry Inv-loop μ-loop
-mul-entry c = search needs
-
-shared-slice-read-entry : tie.Need-shared-slice-read-entry Inv-loop μ-loop
-shared-slice-read-entry c = search needs
-
 slot-right-requires : tie.Need-slot-right-requires Inv-loop μ-loop
 slot-right-requires c κs = search needs
 
@@ -40,8 +34,8 @@ loop-less c = search needs
 
 loop-again : tie.Need-loop-again Inv-loop μ-loop
 loop-again c =
-    let a = c .before .before .before .before .before .args in
-    let l = c .before .before .before .loop in
+    let a = c .before .before .before .before .args in
+    let l = c .before .before .loop in
     let held = now (a .held) in
     (l .inv .0, omega arith, ap₂ _&&_ (l .inv .2) (c .slot-right .ensures) ∙ sym (every-more (l .k) (λ (j : ℕ). slotRight (a .known) held j (getD held j 0))))
 
@@ -55,4 +49,4 @@ returns c =
 pub held-right-spec : {M : Type 1} → statement M
 held-right-spec =
     tie.close
-    (tie.spec Inv-loop μ-loop loop-holds mul-entry shared-slice-read-entry slot-right-requires add-k loop-less loop-again returns)
+    (tie.spec Inv-loop μ-loop loop-holds slot-right-requires add-k loop-less loop-again returns)
