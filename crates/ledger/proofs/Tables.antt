@@ -1,28 +1,38 @@
 -- A side's table tested by slots, days and periods is the table tested at every place.
 use mathlib.Core.Bool.{Bool, true, false, not, _&&_, _||_}
 use mathlib.Core.List.{List}
-use mathlib.Core.Path.{_≡_, sym, ap, ap₂, _∙_}
+use mathlib.Core.Path.{_≡_, refl, sym, ap, ap₂, _∙_}
 use Prim.Native.Nat.{ℕ, suc, _+_, _-_, _*_, _/_, _%_, _≤_, _<_}
-use native.Mathlib.Nat.{add-assoc}
+use native.Mathlib.Nat.{add-zero, add-assoc}
 use native.Mathlib.Omega.{arith}
 use lib.Arith.{digits-div, digits-mod}
-use lib.Dec.{ltb, eqb}
+use lib.Dec.{leb, ltb, eqb}
 use lib.IntN.{ℤ, pos}
 use lib.ListN.{length, getD}
-use borrow.Author.Tests.{lt-ltb, le-ltb, le-leb, ne-eqb}
+use borrow.Author.Tests.{lt-ltb, le-ltb, le-leb, leb-false, ne-eqb}
 use Rattle.words.specs.Below.{everyBelow}
 use Rattle.words.specs.Tests.{within}
-use Rattle.laws.proofs.Below.{every-ext, every-add, every-runs}
+use Rattle.laws.proofs.Below.{every-none, every-ext, every-add, every-runs}
 use Rattle.laws.proofs.Builds.{length-build}
 use Rattle.laws.proofs.Cases.{on, by-eq, and-false, and-true, or-false}
 use Rattle.laws.proofs.Lists.{everyAt-below}
-use Rattle.meaning.specs.Time.{periodsAt, isPeriodAt}
+use Rattle.meaning.specs.Time.{periodsOfCode, periodsAt, isPeriodAt}
 use Rattle.meaning.specs.Ledgers.{contracts, places, slotAt, dayAt, periodAt}
 use Rattle.meaning.specs.Soundness.{placeRight, tableRight}
 use Rattle.meaning.proofs.Clock.{periods-le}
 use Rattle.clock.specs.Structs.{timeOf}
 use Rattle.clock.specs.declared.Clock.{Clock}
-use Rattle.ledger.specs.Parts.{blank, right, rowRight, daysRight}
+use Rattle.ledger.specs.Parts.{blank, right, DayLength, rowRight, daysRight}
+use Rattle.ledger.proofs.Runs.{row-ends}
+
+-- a day has at least 46 periods or none
+periods-none : (codes : List ℕ) (d : ℕ) → periodsAt codes d < 46 → periodsAt codes d ≡ 0
+unfolding periodsAt periodsOfCode
+periods-none codes d h =
+    let c = getD codes d 0 in
+    on (eqb c 0) (λ e. absurd (omega (arith, rw e at h))) (λ e. rw e
+    (on (eqb c 1) (λ q. absurd (omega (arith, rw (e, q) at h))) (λ q. rw q
+    (on (eqb c 2) (λ w. absurd (omega (arith, rw (e, q, w) at h))) (λ w. rw w)))))
 
 -- an entry that is not 0 is above 0
 pub held-test : (e : ℕ) → ltb 0 e ≡ not (eqb e 0)
@@ -64,6 +74,35 @@ module _ (codes held : List ℕ) (s : ℕ) {d p : ℕ} (hd : d < length codes) (
   place-held : ltb 0 (getD held s 0) ≡ true → p < periodsAt codes d → placeRight contracts codes held ((s * length codes + d) * 50 + p) v ≡ right v
   unfolding right
   place-held e h = place-here ∙ rw (e, lt-ltb p (periodsAt codes d) h, and-true (within 99999999 v), and-true (within 99999999 v))
+
+-- the periods of a day, by its code
+pub day-length : (codes : List ℕ) (d : ℕ) → DayLength (periodsAt codes d)
+day-length codes d = record { most = periods-le codes d; least = periods-none codes d }
+
+-- a held slot's day as it is scanned: all places, and the last four
+pub row-held : (side : List ℤ) (base n : ℕ) → 46 ≤ n → n ≤ 50
+    → everyBelow 50 (λ (k : ℕ). right (getD side (base + k) (pos 0))) && everyBelow 4 (λ (k : ℕ). ltb k (n - 46) || blank (getD side (base + 46 + k) (pos 0)))
+    ≡ rowRight side base n true
+unfolding rowRight right
+row-held side base n lo hi =
+    let f : ℕ → Bool = λ k. right (getD side (base + k) (pos 0)) in
+    let g : ℕ → Bool = λ k. blank (getD side (base + k) (pos 0)) in
+    ap (λ (b : Bool). everyBelow 50 f && b)
+    (every-ext 4 (λ (k : ℕ). ltb k (n - 46) || blank (getD side (base + 46 + k) (pos 0))) (λ (k : ℕ). ltb k (n - 46) || g (46 + k))
+    (λ k l. ap (λ (j : ℕ). ltb k (n - 46) || blank (getD side j (pos 0))) (add-assoc base 46 k)))
+    ∙ row-ends f g n lo hi (λ k e. rw e)
+    ∙ ap (λ (b : Bool). everyBelow n f && b)
+    (every-ext (50 - n) (λ (k : ℕ). g (n + k)) (λ (k : ℕ). blank (getD side (base + n + k) (pos 0)))
+    (λ k l. ap (λ (j : ℕ). blank (getD side j (pos 0))) (sym (add-assoc base n k))))
+
+-- the day of an unheld slot, and a day without periods
+pub row-blank : (side : List ℤ) (base n : ℕ) (held : Bool) → DayLength n → held && leb 46 n ≡ false
+    → everyBelow 50 (λ (k : ℕ). blank (getD side (base + k) (pos 0))) ≡ rowRight side base n held
+unfolding rowRight
+row-blank side base n false h e = refl
+row-blank side base n true h e =
+    let q : n ≡ 0 = h .least (leb-false 46 n e) in
+    rw (q, every-none) (every-ext 50 (λ (k : ℕ). blank (getD side (base + k) (pos 0))) (λ (k : ℕ). blank (getD side (base + 0 + k) (pos 0))) (λ k l. rw add-zero))
 
 -- a slot's day
 row-here : (side : List ℤ) (codes held : List ℕ) (s d : ℕ) → d < length codes

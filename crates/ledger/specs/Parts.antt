@@ -1,6 +1,7 @@
 -- What the functions of `ledger` answer of places and runs of places.
 use mathlib.Core.Bool.{Bool, not, _&&_, _||_}
 use mathlib.Core.List.{List}
+use mathlib.Core.Path.{_≡_}
 use Prim.Native.Nat.{ℕ, _+_, _-_, _*_, _≤_, _<_}
 use lib.IntN.{ℤ, pos}
 use lib.ListN.{length, getD}
@@ -23,6 +24,11 @@ right v = blank v || within 99999999 v
 -- an entry that is not this one
 abbrev pub other : ℕ → ℕ → Bool
 other entry x = not (x =? entry)
+
+-- the periods of a day: 46 to 50, and none where its code is unknown
+pub record DayLength (periods : ℕ) : Type 0 where
+  pub most : periods ≤ 50
+  pub least : periods < 46 → periods ≡ 0
 
 -- the 50 places of a slot's day from `base` on
 unfoldable pub rowRight : List ℤ → ℕ → ℕ → Bool → Bool

@@ -5,11 +5,12 @@ ghost use Prim.Native.Nat.{ℕ, _+_, _-_, _≤_, _<_, min};
 ghost use lib.IntN.{pos};
 ghost use lib.ListN.{length, getD, replicate};
 ghost use lib.Seq.{sets};
+ghost use Rattle.words.specs.Tests.{_<?_};
 ghost use Rattle.words.specs.Below.{everyBelow};
 ghost use Rattle.words.specs.Lists.{find};
 ghost use Rattle.meaning.specs.Ledgers.{contracts, stands, theMark};
 ghost use Rattle.meaning.specs.Soundness.{slotRight, heldRight};
-ghost use Rattle.ledger.specs.Parts.{blank, right, other, rowRight, daysRight, SlotInside, sideRight};
+ghost use Rattle.ledger.specs.Parts.{blank, right, other, DayLength, rowRight, daysRight, SlotInside, sideRight};
 
 // "the mark -2,147,483,648 means nothing stands"
 pub const MARK: i32 = -2147483648;
@@ -20,6 +21,9 @@ pub const MOST_KWH: i32 = 99999999;
 
 // The places of a side: slots times days times 50.
 pub const PLACES_A_DAY: usize = 50;
+
+// The shortest day's.
+const LEAST_PERIODS: usize = 46;
 
 pub const MOST_SLOTS: usize = 256;
 
@@ -75,15 +79,28 @@ pub fn all_right(part: &[i32]) -> bool
     ok
 }
 
-// One day of a slot: a held slot's periods are right, and all else is blank.
+// Nothing stands in the part from place `from` on.
+fn blank_from(part: &[i32], from: usize) -> bool
+    ensures { λ r. ⌜ r ≡ everyBelow (length (now (part .entry))) (λ (k : ℕ). k <? from || blank (getD (now (part .entry)) k (pos 0))) ⌝ }
+{
+    let mut ok = true;
+    for k in 0..part.len() {
+        let v = part[k];
+        ok = ok & ((k < from) | (v == MARK));
+    }
+    ok
+}
+
+// One day of a slot: a held slot's periods are right, and all else is blank. Only the last four places can be past a day's length, so that all 50 are
+// scanned at once; a day whose code is unknown has no periods.
 fn row_right(side: &[i32], base: usize, periods: usize, held: bool) -> bool
-    requires { ⌜ (periods ≤ 50) × (base + 50 ≤ length (now side)) ⌝ }
+    requires { ⌜ DayLength periods × (base + 50 ≤ length (now side)) ⌝ }
     ensures { λ r. ⌜ r ≡ rowRight (now (side .entry)) base periods held ⌝ }
 {
     let end = base + PLACES_A_DAY;
-    if held {
-        let past = base + periods;
-        return all_right(&side[base..past]) & all_blank(&side[past..end]);
+    if held & (LEAST_PERIODS <= periods) {
+        let last = base + LEAST_PERIODS;
+        return all_right(&side[base..end]) & blank_from(&side[last..end], periods - LEAST_PERIODS);
     }
     all_blank(&side[base..end])
 }

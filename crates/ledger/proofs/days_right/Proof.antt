@@ -8,10 +8,10 @@ use denote.Ref.{now}
 use Rattle.words.specs.Below.{everyBelow}
 use Rattle.laws.proofs.Below.{every-none, every-more}
 use Rattle.meaning.specs.Time.{periodsAt}
-use Rattle.meaning.proofs.Clock.{periods-le}
 use Rattle.clock.specs.Structs.{timeOf}
 use Rattle.ledger.specs.Parts.{rowRight, daysRight}
 use Rattle.ledger.proofs.Runs.{product-few}
+use Rattle.ledger.proofs.Tables.{day-length}
 use Rattle.ledger.proofs.days_right.Statement.{statement}
 use Rattle.ledger.proofs.days_right.Tie as tie
 
@@ -56,7 +56,7 @@ row-right-requires : tie.Need-row-right-requires Inv-loop μ-loop
 row-right-requires c κs =
     let a = c .before .before .before .before .before .args in
     let d = c .before .before .before .before .loop .d in
-    (omega (arith, c .periods-at .ensures, periods-le (timeOf (a .c) .codes) d), omega arith)
+    (rw (c .periods-at .ensures) (day-length (timeOf (a .c) .codes) d), omega arith)
 
 add-d : tie.Need-add-d Inv-loop μ-loop
 add-d c = search needs
