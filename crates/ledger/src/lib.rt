@@ -159,11 +159,12 @@ fn days_right(side: &[i32], slot: usize, held: bool, c: clock::Clock) -> bool
     requires { ⌜ SlotInside (now side) slot (c .days) ⌝ }
     ensures { λ r. ⌜ r ≡ daysRight (now (side .entry)) slot held c ⌝ }
 {
+    let codes = c.codes; // copied once a slot: a field indexed by a variable is copied whole each time
     let mut ok = true;
     let mut d: u8 = 0;
     while d < c.days {
         let base = (slot * c.days as usize + d as usize) * PLACES_A_DAY;
-        let periods = clock::periods_at(c, d) as usize;
+        let periods = clock::periods_of(codes[d as usize]) as usize;
         ok = ok & row_right(side, base, periods, held);
         d += 1;
     }
