@@ -19,7 +19,7 @@ use Rattle.meaning.proofs.SetupRules.{Opens, opens}
 use Rattle.setups.specs.Structs.{codesOf, rowsOf, setupOf}
 use Rattle.clock.specs.declared.Clock.{Clock}
 use Rattle.clock.specs.Structs.{timeOf}
-use Rattle.ledger.specs.Parts.{sideRight}
+use Rattle.soundness.specs.Parts.{sideRight}
 use Rattle.book.specs.Structs.{timeIn, bookOf}
 use Rattle.book.specs.declared.Book.{Book}
 

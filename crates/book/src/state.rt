@@ -102,7 +102,7 @@ pub fn is_sound(b: Book, held: &[u32], side1: &[i32], side2: &[i32]) -> bool
     let c = clock_of(b);
     let gates = clock::gates_before(c, s.days);
     (b.closed <= gates)
-        & ledger::held_right(held, s.authorisations as usize)
-        & ledger::side_right(side1, held, c)
-        & ledger::side_right(side2, held, c)
+        & soundness::held_right(held, s.authorisations as usize)
+        & soundness::side_right(side1, held, c)
+        & soundness::side_right(side2, held, c)
 }

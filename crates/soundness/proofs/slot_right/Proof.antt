@@ -1,0 +1,63 @@
+-- An unheld slot is right; of a held one the originator and the slots before are tested.
+use borrow.Author.Needs.{needs}
+use mathlib.Core.Path.{refl, sym, _∙_}
+use native.Mathlib.Omega.{arith}
+use denote.Ref.{now}
+use lib.ListN.{getD}
+use Rattle.soundness.proofs.Slots.{slot-unheld, slot-held, found-here, part-before}
+use Rattle.soundness.proofs.slot_right.Statement.{statement}
+use Rattle.soundness.proofs.slot_right.Tie as tie
+
+mul-entry : tie.Need-mul-entry
+mul-entry c = search needs
+
+shared-slice-read-entry : tie.Need-shared-slice-read-entry
+shared-slice-read-entry c = search needs
+
+returns : tie.Need-returns
+returns c =
+    let a = c .before .before .before .args in
+    let held = now (a .held) in
+    sym (slot-unheld (a .known) held (a .k) (getD held (a .k) 0) (c .if1 .taken))
+
+sub-originator : tie.Need-sub-originator
+sub-originator c = search needs
+
+cast-originator : tie.Need-cast-originator
+cast-originator c = omega (arith, c .before .shared-slice-known2 .given (c .before .before .before .args .k))
+
+sub-none-holds : tie.Need-sub-none-holds
+sub-none-holds c = search needs
+
+part-none-holds-start : tie.Need-part-none-holds-start
+part-none-holds-start c = search needs
+
+part-none-holds-end : tie.Need-part-none-holds-end
+part-none-holds-end c = search needs
+
+none-holds-requires : tie.Need-none-holds-requires
+none-holds-requires c κs = search needs
+
+returns-2 : tie.Need-returns-2
+returns-2 c =
+    let a = c .before .before .before .before .before .args in
+    let held = now (a .held) in
+    let entry = getD held (a .k) 0 in
+    let inside = c .before .before .before .before .before .pre in
+    let before = c .none-holds .ensures ∙ part-before held (a .k) entry inside ∙ sym (found-here held (a .k) entry inside refl) in
+    rw before (sym (slot-held (a .known) held (a .k) entry (c .before .before .if1 .left)))
+
+pub slot-right-spec : {M : Type 1} → statement M
+slot-right-spec =
+    tie.close
+    (tie.spec
+    mul-entry
+    shared-slice-read-entry
+    returns
+    sub-originator
+    cast-originator
+    sub-none-holds
+    part-none-holds-start
+    part-none-holds-end
+    none-holds-requires
+    returns-2)
