@@ -17,9 +17,9 @@ use Rattle.meaning.specs.PackedSetups.{noSetup, setupIn, setupReadingRules, rea
 use Rattle.meaning.proofs.PackedSetupRules.{setup-reading-answer, setup-reading-done, setup-readable}
 use Rattle.setups.specs.Structs.{setupOf, setupFor}
 use Rattle.setups.specs.declared.Setup.{Setup}
-use Rattle.packed_setups.specs.Structs.{setupRead}
-use Rattle.packed_setups.specs.declared.SetupRead.{SetupRead}
-use Rattle.packed_setups.proofs.ReadParts.{struct-holds, few-codes, few-rows}
+use Rattle.setup_reading.specs.Structs.{setupRead}
+use Rattle.setup_reading.specs.declared.SetupRead.{SetupRead}
+use Rattle.setup_reading.proofs.ReadParts.{struct-holds, few-codes, few-rows}
 use Rattle.setups.proofs.SetupHeld.{codes-own}
 use Rattle.book.specs.Answers.{opened, openedPacked, heldOpened, sideOpened}
 use Rattle.book.specs.declared.Opened.{Opened}

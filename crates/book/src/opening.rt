@@ -106,7 +106,7 @@ pub fn open_packed(
       let read = readSetup (now (bytes .entry)) (length (now (held .entry))) (length (now (side1 .entry))) (length (now (side2 .entry)))
       ⌜ (r ≡ openedPacked read) × (now (held .exit) ≡ heldOpened (read .answer) (now (held .entry))) × (now (side1 .exit) ≡ sideOpened (read .answer) (now (side1 .entry))) × (now (side2 .exit) ≡ sideOpened (read .answer) (now (side2 .entry))) ⌝ }
 {
-    let read = packed_setups::reading::read_setup(bytes, held.len(), side1.len(), side2.len());
+    let read = setup_reading::read_setup(bytes, held.len(), side1.len(), side2.len());
     let setup = read.setup;
     let done = open(setup, held, side1, side2);
     let book = done.book;

@@ -28,7 +28,7 @@ fn apply_known(
       let whole = applied (bookOf b (now (held .entry)) (now (side1 .entry)) (now (side2 .entry))) (now (bytes .entry))
       ⌜ (r ≡ appliedOf b whole) × (now (held .exit) ≡ whole .book .ledger .held) × (now (side1 .exit) ≡ whole .book .ledger .side1) × (now (side2 .exit) ≡ whole .book .ledger .side2) ⌝ }
 {
-    let read = messages::reading::read_message(bytes);
+    let read = message_reading::read_message(bytes);
     if read.answer != 0 {
         return Applied {
             answer: read.answer,

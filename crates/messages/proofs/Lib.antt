@@ -1,8 +1,4 @@
--- Laws that the functions' proofs share; the round trips in the code's terms; and that no two outcomes meet one promise.
+-- Laws that proofs share, and that no two outcomes meet one promise.
 pub mod LayoutSizes
-pub mod ReadParts
-pub mod WriteParts
-pub mod StructRanges
-pub mod EitherWay
-pub mod UniqueReading
-pub mod UniqueWriting
+pub mod Settled
+pub mod Unique

@@ -1,4 +1,3 @@
--- How the structs of `messages` hold what meaning speaks of, and the parts that its own functions are proved by.
+-- How the structs of `messages` hold what meaning speaks of, and what one of its functions answers.
 pub mod Structs
 pub mod Parts
-pub mod Writing

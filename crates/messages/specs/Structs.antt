@@ -8,13 +8,11 @@ use Rattle.words.specs.Lists.{build}
 use Rattle.words.specs.Fields.{fieldAt, readAll, signedOf}
 use Rattle.meaning.specs.Ledgers.{contracts, identifierOf, originatorOf, referenceOf}
 use Rattle.meaning.specs.Messages as Meaning
-use Rattle.meaning.specs.PackedMessages.{Packed, gate, notification, nullification, otherKind, notificationLayout, nullificationLayout, kindIn, Reading, Written}
+use Rattle.meaning.specs.PackedMessages.{Packed, gate, notification, nullification, otherKind}
 use Rattle.messages.specs.declared.Entry.{Entry}
 use Rattle.messages.specs.declared.Notification.{Notification}
 use Rattle.messages.specs.declared.Nullification.{Nullification}
 use Rattle.messages.specs.declared.Message.{Message}
-use Rattle.messages.specs.declared.MessageRead.{MessageRead}
-use Rattle.messages.specs.declared.MessageWritten.{MessageWritten}
 
 -- ---- what a struct holds
 
@@ -78,12 +76,6 @@ messageFor gate = noMessage
 messageFor (notification n) = record { kind = 1; notification = notificationFor n; nullification = noNullification }
 messageFor (nullification x) = record { kind = 2; notification = noNotification; nullification = nullificationFor x }
 messageFor (otherKind k) = record { kind = 3 + k; notification = noNotification; nullification = noNullification }
-
-unfoldable pub messageRead : Reading Packed → MessageRead
-messageRead r = record { answer = r .answer; length = r .length; message = messageFor (r .read) }
-
-unfoldable pub messageWritten : Written → MessageWritten
-messageWritten w = record { answer = w .answer; length = w .length }
 
 -- ---- a message as it reads back: places past the count, and what its kind lacks, are zero
 

@@ -1,7 +1,5 @@
-// Messages by value, read from packed bytes and written to them (meaning, PackedMessages.antt).
-mod layouts; // layouts.rt: the sizes of messages
-pub mod reading; // reading.rt: bytes to a message
-pub mod writing; // writing.rt: a message to bytes
+// Messages by value, and how long they are when packed (meaning, PackedMessages.antt).
+pub mod layouts; // layouts.rt: the bits and bytes that they take
 
 // One period and its volume in whole kWh.
 #[repr(C)]
@@ -37,19 +35,4 @@ pub struct Message {
     pub kind: u8,
     pub notification: Notification,
     pub nullification: Nullification,
-}
-
-// With a refusal the length is 0 and the message all zero.
-#[repr(C)]
-pub struct MessageRead {
-    pub answer: u8,
-    pub length: usize,
-    pub message: Message,
-}
-
-// With a refusal the length is 0.
-#[repr(C)]
-pub struct MessageWritten {
-    pub answer: u8,
-    pub length: usize,
 }

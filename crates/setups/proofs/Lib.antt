@@ -1,4 +1,4 @@
 -- What a setup's struct holds, and that no two outcomes meet one promise.
 pub mod SetupHeld
 pub mod UniqueRules
-pub mod UniqueSizes
+pub mod UniqueLayouts

@@ -1,6 +1,6 @@
 // Setups by value, their rules, and how long they are when packed (meaning, Books.antt and PackedSetups.antt).
 pub mod rules; // rules.rt: what can be wrong with a setup
-pub mod sizes; // sizes.rt: the bits and bytes that it takes
+pub mod layouts; // layouts.rt: the bits and bytes that it takes
 
 // An authorisation. `amendment` is its type: 0 both, 1 replacement, 2 additional. A last day of 65,535 is evergreen.
 #[repr(C)]

@@ -3,7 +3,8 @@ use mathlib.Core.Path.{_≡_, refl, ap, _∙_}
 use Prim.Native.Nat.{ℕ}
 use lib.Ieee.{Float}
 use Rattle.meaning.specs.PackedMessages.{Packed, Reading}
-use Rattle.messages.specs.Structs.{messageFor, messageRead}
+use Rattle.messages.specs.Structs.{messageFor}
+use Rattle.message_reading.specs.Structs.{messageRead}
 use Rattle.shown.specs.Figures.{caseOf, firstOf, secondOf}
 use Rattle.bars.specs.declared.Marked.{Marked}
 use Rattle.viewer.specs.Numbers.{markNumbers}

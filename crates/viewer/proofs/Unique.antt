@@ -9,14 +9,16 @@ use Rattle.laws.proofs.Cases.{one-outcome}
 use Rattle.meaning.specs.Ledgers.{identifierOf}
 use Rattle.meaning.specs.PackedMessages.{readingRules, readMessage, writeMessage}
 use Rattle.meaning.specs.PackedSetups.{writeSetup}
-use Rattle.messages.specs.Structs.{messageOf, messageRead, messageWritten}
+use Rattle.messages.specs.Structs.{messageOf}
+use Rattle.message_reading.specs.Structs.{messageRead}
+use Rattle.message_writing.specs.Structs.{messageWritten}
 use Rattle.messages.specs.declared.Message.{Message}
-use Rattle.messages.specs.declared.MessageRead.{MessageRead}
-use Rattle.messages.specs.declared.MessageWritten.{MessageWritten}
+use Rattle.message_reading.specs.declared.MessageRead.{MessageRead}
+use Rattle.message_writing.specs.declared.MessageWritten.{MessageWritten}
 use Rattle.setups.specs.Structs.{setupOf}
-use Rattle.packed_setups.specs.Structs.{setupWritten}
+use Rattle.setup_writing.specs.Structs.{setupWritten}
 use Rattle.setups.specs.declared.Setup.{Setup}
-use Rattle.packed_setups.specs.declared.SetupWritten.{SetupWritten}
+use Rattle.setup_writing.specs.declared.SetupWritten.{SetupWritten}
 use Rattle.book.specs.Structs.{bookOf}
 use Rattle.book.specs.declared.Book.{Book}
 use Rattle.bars.specs.Marks.{marked}

@@ -15,7 +15,7 @@ ghost use Rattle.meaning.specs.PackedSetups.{readSetup};
 ghost use Rattle.meaning.specs.PackedCalls.{applied, runAnswer, runOn};
 ghost use Rattle.meaning.specs.Rows.{rowRules};
 ghost use Rattle.setups.specs.Structs.{setupOf};
-ghost use Rattle.packed_setups.specs.Structs.{setupRead};
+ghost use Rattle.setup_reading.specs.Structs.{setupRead};
 ghost use Rattle.book.specs.Structs.{bookOf};
 ghost use Rattle.messages.specs.Structs.{notificationOf, nullificationOf};
 ghost use Rattle.book.specs.Answers.{opened, heldOpened, sideOpened, gated};
@@ -30,10 +30,10 @@ pub extern "C" fn ghendufika_read_setup(
     slots: usize,
     lent1: usize,
     lent2: usize,
-) -> packed_setups::SetupRead
+) -> setup_reading::SetupRead
     ensures { λ r. ⌜ r ≡ setupRead (readSetup (now (bytes .entry)) slots lent1 lent2) ⌝ }
 {
-    packed_setups::reading::read_setup(bytes, slots, lent1, lent2)
+    setup_reading::read_setup(bytes, slots, lent1, lent2)
 }
 
 #[no_mangle]

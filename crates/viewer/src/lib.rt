@@ -24,7 +24,7 @@ pub struct MarkNumbers {
 pub extern "C" fn ghendufika_message_refusal(bytes: &[u8]) -> u8
     ensures { λ r. ⌜ r ≡ answer (readingRules (now (bytes .entry))) ⌝ }
 {
-    messages::reading::reading_refusal(bytes)
+    message_reading::reading_refusal(bytes)
 }
 
 // The bytes that the message takes, 0 with a refusal.
@@ -32,7 +32,7 @@ pub extern "C" fn ghendufika_message_refusal(bytes: &[u8]) -> u8
 pub extern "C" fn ghendufika_message_length(bytes: &[u8]) -> usize
     ensures { λ r. ⌜ r ≡ readMessage (now (bytes .entry)) .length ⌝ }
 {
-    let read = messages::reading::read_message(bytes);
+    let read = message_reading::read_message(bytes);
     read.length
 }
 
@@ -41,6 +41,6 @@ pub extern "C" fn ghendufika_message_length(bytes: &[u8]) -> usize
 pub extern "C" fn ghendufika_message_field(bytes: &[u8], field: u32) -> i64
     ensures { λ r. ⌜ r ≡ fieldIn (readMessage (now (bytes .entry)) .read) field ⌝ }
 {
-    let read = messages::reading::read_message(bytes);
+    let read = message_reading::read_message(bytes);
     questions::message_field(read.message, field)
 }

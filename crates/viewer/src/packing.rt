@@ -4,36 +4,38 @@ ghost use mathlib.Core.Path.{_≡_};
 ghost use lib.ListN.{length};
 ghost use Rattle.meaning.specs.PackedMessages.{readMessage, writeMessage};
 ghost use Rattle.meaning.specs.PackedSetups.{readSetup, writeSetup};
-ghost use Rattle.messages.specs.Structs.{messageOf, messageRead, messageWritten};
+ghost use Rattle.messages.specs.Structs.{messageOf};
+ghost use Rattle.message_reading.specs.Structs.{messageRead};
+ghost use Rattle.message_writing.specs.Structs.{messageWritten};
 ghost use Rattle.setups.specs.Structs.{setupOf};
-ghost use Rattle.packed_setups.specs.Structs.{setupWritten};
+ghost use Rattle.setup_writing.specs.Structs.{setupWritten};
 ghost use Rattle.book.specs.Answers.{openedPacked, heldOpened, sideOpened};
 
 #[no_mangle]
-pub extern "C" fn ghendufika_read_message(bytes: &[u8]) -> messages::MessageRead
+pub extern "C" fn ghendufika_read_message(bytes: &[u8]) -> message_reading::MessageRead
     ensures { λ r. ⌜ r ≡ messageRead (readMessage (now (bytes .entry))) ⌝ }
 {
-    messages::reading::read_message(bytes)
+    message_reading::read_message(bytes)
 }
 
 #[no_mangle]
 pub extern "C" fn ghendufika_write_message(
     m: messages::Message,
     out: &mut [u8],
-) -> messages::MessageWritten
+) -> message_writing::MessageWritten
     ensures { λ r. ⌜ (r ≡ messageWritten (writeMessage (messageOf m) (now (out .entry)))) × (now (out .exit) ≡ writeMessage (messageOf m) (now (out .entry)) .out) ⌝ }
 {
-    messages::writing::write_message(m, out)
+    message_writing::write_message(m, out)
 }
 
 #[no_mangle]
 pub extern "C" fn ghendufika_write_setup(
     s: setups::Setup,
     out: &mut [u8],
-) -> packed_setups::SetupWritten
+) -> setup_writing::SetupWritten
     ensures { λ r. ⌜ (r ≡ setupWritten (writeSetup (setupOf s) (now (out .entry)))) × (now (out .exit) ≡ writeSetup (setupOf s) (now (out .entry)) .out) ⌝ }
 {
-    packed_setups::writing::write_setup(s, out)
+    setup_writing::write_setup(s, out)
 }
 
 #[no_mangle]

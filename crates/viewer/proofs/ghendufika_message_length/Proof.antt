@@ -3,7 +3,7 @@ use mathlib.Core.Path.{_∙_, ap}
 use denote.Ref.{now}
 use borrow.Author.Needs.{needs}
 use Rattle.meaning.specs.PackedMessages.{readMessage}
-use Rattle.messages.specs.declared.MessageRead.{MessageRead}
+use Rattle.message_reading.specs.declared.MessageRead.{MessageRead}
 use Rattle.viewer.proofs.Answers.{length-read}
 use Rattle.viewer.proofs.ghendufika_message_length.Statement.{statement}
 use Rattle.viewer.proofs.ghendufika_message_length.Tie as tie

@@ -11,9 +11,10 @@ use Rattle.meaning.specs.Books as Meaning
 use Rattle.meaning.specs.Soundness.{sound}
 use Rattle.meaning.specs.PackedMessages.{readMessage}
 use Rattle.messages.specs.declared.Message.{Message}
-use Rattle.messages.specs.declared.MessageRead.{MessageRead}
-use Rattle.messages.specs.Structs.{messageOf, messageRead}
-use Rattle.messages.proofs.EitherWay.{read-message-again}
+use Rattle.message_reading.specs.declared.MessageRead.{MessageRead}
+use Rattle.messages.specs.Structs.{messageOf}
+use Rattle.message_reading.specs.Structs.{messageRead}
+use Rattle.message_reading.proofs.ReadAgain.{read-message-again}
 use Rattle.book.specs.Structs.{bookOf}
 use Rattle.calls.proofs.PackedLaws.{unread-applies, unsound-applies, done-applies}
 use Rattle.calls.proofs.packed.apply_known.Statement.{statement}

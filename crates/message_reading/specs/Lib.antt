@@ -1,0 +1,3 @@
+-- What reading gives, and the parts that its own functions are proved by.
+pub mod Structs
+pub mod Parts

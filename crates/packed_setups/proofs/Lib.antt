@@ -1,7 +1,0 @@
--- Laws that the functions' proofs share; the round trips in the code's terms; and that no two outcomes meet one promise.
-pub mod ValuesFit
-pub mod ReadParts
-pub mod WriteParts
-pub mod EitherWay
-pub mod UniqueReading
-pub mod UniqueWriting

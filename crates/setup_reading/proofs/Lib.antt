@@ -1,0 +1,3 @@
+-- Laws that the functions' proofs share, and that no two outcomes meet one promise.
+pub mod ReadParts
+pub mod Unique

@@ -1,0 +1,193 @@
+// Reading: under 5 bytes 19, counts, last day or lent lengths 17, short 19, day code three 17, rows 18, a padding bit 22.
+use setups::Authorisation;
+use setups::Setup;
+use setups::layouts;
+use setups::rules;
+ghost use mathlib.Core.Bool.{not};
+ghost use mathlib.Core.Path.{_≡_};
+ghost use lib.Dec.{eqb};
+ghost use Prim.Native.Nat.{_≤_};
+ghost use Rattle.words.specs.Rules.{answer};
+ghost use Rattle.words.specs.Fields.{total, padding, fieldAt};
+ghost use Rattle.meaning.specs.PackedSetups.{setupLayoutFor, setupReadingRules, readSetup};
+ghost use Rattle.setups.specs.Structs.{noSetupStruct};
+ghost use Rattle.setup_reading.specs.Structs.{setupRead};
+ghost use Rattle.setup_reading.specs.Parts.{rowIn, codesIn, rowsIn, setupStructIn};
+
+// With a refusal the length is 0 and the setup all zero.
+#[repr(C)]
+pub struct SetupRead {
+    pub answer: u8,
+    pub length: usize,
+    pub setup: setups::Setup,
+}
+
+const BYTES_END_TOO_SOON: u8 = 19;
+
+const PADDING_BIT: u8 = 22;
+
+const HEAD_BYTES: usize = 5;
+// Some padding bit is 1.
+fn padding_set(bytes: &[u8], days: u8, authorisations: u8) -> bool
+    ensures { λ r. ⌜ r ≡ not (eqb (fieldAt (now (bytes .entry)) (total (setupLayoutFor days authorisations)) (padding (setupLayoutFor days authorisations))) 0) ⌝ }
+{
+    let bits = layouts::bits_for(days, authorisations);
+    let width = layouts::padding_for(days, authorisations);
+    fields::read_field(bytes, bits, width) != 0
+}
+
+// Row k of a setup of so many days.
+fn row_in(bytes: &[u8], days: u8, k: u8) -> Authorisation
+    ensures { λ r. ⌜ r ≡ rowIn (now (bytes .entry)) days k ⌝ }
+{
+    let widths = layouts::ROW_WIDTHS;
+    let mut v = [0u32; 8];
+    fields::read_fields(bytes, layouts::bits_for(days, k), &widths, &mut v);
+    Authorisation {
+        agent1: v[0] as u8,
+        agent2: v[1] as u8,
+        account1: v[2] as u8,
+        account2: v[3] as u8,
+        key: v[4] as u16,
+        first: v[5] as u16,
+        last: v[6] as u16,
+        amendment: v[7] as u8,
+    }
+}
+
+// The codes of so many days, at most 8; the places past them are zero.
+fn codes_in(bytes: &[u8], days: u8) -> [u8; 8]
+    ensures { λ r. ⌜ r ≡ codesIn (now (bytes .entry)) days ⌝ }
+{
+    let mut codes = [0u8; 8];
+    let mut d: u8 = 0;
+    while d < 8 {
+        if d < days {
+            codes[d as usize] = fields::read_field(
+                bytes,
+                layouts::HEAD_BITS + layouts::CODE_BITS * d as u32,
+                2,
+            ) as u8;
+        }
+        d += 1;
+    }
+    codes
+}
+
+// So many rows, at most 64; the places past them are zero.
+fn rows_in(bytes: &[u8], days: u8, count: u8) -> [Authorisation; 64]
+    ensures { λ r. ⌜ r ≡ rowsIn (now (bytes .entry)) days count ⌝ }
+{
+    let mut rows = [Authorisation {
+        agent1: 0,
+        agent2: 0,
+        account1: 0,
+        account2: 0,
+        key: 0,
+        first: 0,
+        last: 0,
+        amendment: 0,
+    }; 64];
+    let mut k: u8 = 0;
+    while k < 64 {
+        if k < count {
+            let a = row_in(bytes, days, k);
+            rows[k as usize] = a;
+        }
+        k += 1;
+    }
+    rows
+}
+
+// The setup that the bytes hold.
+fn setup_in(bytes: &[u8]) -> Setup
+    ensures { λ r. ⌜ r ≡ setupStructIn (now (bytes .entry)) ⌝ }
+{
+    let widths = layouts::HEAD_WIDTHS;
+    let mut v = [0u32; 4];
+    fields::read_fields(bytes, 0, &widths, &mut v);
+    let days = v[1] as u8;
+    let authorisations = v[3] as u8;
+    let codes = codes_in(bytes, days);
+    let rows = rows_in(bytes, days, authorisations);
+    Setup {
+        first: v[0] as u16,
+        days: days,
+        accounts: v[2] as u8,
+        authorisations: authorisations,
+        codes: codes,
+        rows: rows,
+    }
+}
+
+// A setup whose every field is zero: what a refusal gives.
+fn no_setup() -> Setup
+    ensures { λ r. ⌜ r ≡ noSetupStruct ⌝ }
+{
+    Setup {
+        first: 0,
+        days: 0,
+        accounts: 0,
+        authorisations: 0,
+        codes: [0u8; 8],
+        rows: [Authorisation {
+            agent1: 0,
+            agent2: 0,
+            account1: 0,
+            account2: 0,
+            key: 0,
+            first: 0,
+            last: 0,
+            amendment: 0,
+        }; 64],
+    }
+}
+
+// The number that refuses these bytes for so many slots and two lent tables of these lengths, or 0.
+pub fn reading_refusal(bytes: &[u8], slots: usize, lent1: usize, lent2: usize) -> u8
+    ensures { λ r. ⌜ r ≡ answer (setupReadingRules (now (bytes .entry)) slots lent1 lent2) ⌝ }
+{
+    if bytes.len() < HEAD_BYTES {
+        return BYTES_END_TOO_SOON;
+    }
+    let s = setup_in(bytes);
+    if rules::counts_wrong(s)
+        | rules::last_day_wrong(s)
+        | rules::lent_wrong(s, slots, lent1, lent2)
+    {
+        return rules::SETUP_WRONG;
+    }
+    if bytes.len() < layouts::bytes_for(s.days, s.authorisations) {
+        return BYTES_END_TOO_SOON;
+    }
+    if rules::code_wrong(s) {
+        return rules::SETUP_WRONG;
+    }
+    if rules::some_row_wrong(s) {
+        return rules::ROW_WRONG;
+    }
+    if padding_set(bytes, s.days, s.authorisations) {
+        return PADDING_BIT;
+    }
+    0
+}
+
+// The setup at the front of the bytes: its answer, its length and itself. Bytes after it belong to the messages.
+pub fn read_setup(bytes: &[u8], slots: usize, lent1: usize, lent2: usize) -> SetupRead
+    ensures { λ r. ⌜ r ≡ setupRead (readSetup (now (bytes .entry)) slots lent1 lent2) ⌝ }
+{
+    let answer = reading_refusal(bytes, slots, lent1, lent2);
+    if answer != 0 {
+        return SetupRead {
+            answer: answer,
+            length: 0,
+            setup: no_setup(),
+        };
+    }
+    let s = setup_in(bytes);
+    SetupRead {
+        answer: 0,
+        length: layouts::bytes_for(s.days, s.authorisations),
+        setup: s,
+    }
+}

@@ -1,0 +1,80 @@
+-- Either way round, in the code's terms: a setup that is written reads back settled, and bytes that are read are written again.
+use mathlib.Core.Bool.{false}
+use mathlib.Core.List.{List, _++_}
+use mathlib.Core.Path.{_≡_, sym, ap, _∙_}
+use Prim.Native.Nat.{ℕ, _≤_}
+use lib.ListN.{length, getD, take, drop}
+use borrow.Author.Tests.{lt-ltb, le-ltb}
+use Rattle.words.specs.Lists.{build}
+use Rattle.laws.proofs.Bits.{Bytes}
+use Rattle.laws.proofs.Builds.{length-build, getD-build, getD-build-past, build-same}
+use Rattle.laws.proofs.Cases.{by-lt}
+use Rattle.meaning.specs.Authorisations.{noRow}
+use Rattle.meaning.specs.Books as Books
+use Rattle.meaning.specs.Books.{lentWrong}
+use Rattle.meaning.specs.PackedSetups.{setupIn, readSetup, writeSetup}
+use Rattle.meaning.proofs.EitherWaySetups.{setup-written-reads, setup-read-writes}
+use Rattle.meaning.proofs.PackedSetupRules.{setup-reading-answer, setup-reading-done, setup-readable}
+use Rattle.setups.specs.Structs.{noAuthorisation, rowOf, rowFor, rowsOf, codesOf, setupOf, setupFor}
+use Rattle.setup_reading.specs.Structs.{setupRead}
+use Rattle.setup_writing.specs.Structs.{setupWritten, settled}
+use Rattle.setups.specs.declared.Setup.{Setup}
+use Rattle.setup_reading.proofs.ReadParts.{struct-holds, few-codes, few-rows}
+
+-- ---- a struct, by way of what it means
+
+codes-settled : (s : Setup) → build 8 (λ (k : ℕ). getD (codesOf (s .days) (s .codes)) k 0) ≡ settled s .codes
+unfolding codesOf settled
+codes-settled s =
+    build-same 8 _ _
+    (λ k h. by-lt k (s .days)
+    (λ l. rw (getD-build (s .days) (λ (j : ℕ). getD (s .codes) j 0) 0 k l, lt-ltb k (s .days) l))
+    (λ l. rw (getD-build-past (s .days) (λ (j : ℕ). getD (s .codes) j 0) 0 k l, le-ltb k (s .days) l)))
+
+rows-settled : (s : Setup) → build 64 (λ (k : ℕ). rowFor (getD (rowsOf (s .authorisations) (s .rows)) k noRow)) ≡ settled s .rows
+unfolding rowsOf settled
+rows-settled s =
+    build-same 64 _ _
+    (λ k h. by-lt k (s .authorisations)
+    (λ l. rw (getD-build (s .authorisations) (λ (j : ℕ). rowOf (getD (s .rows) j noAuthorisation)) noRow k l, lt-ltb k (s .authorisations) l))
+    (λ l. rw (getD-build-past (s .authorisations) (λ (j : ℕ). rowOf (getD (s .rows) j noAuthorisation)) noRow k l, le-ltb k (s .authorisations) l)))
+
+length-codes : (s : Setup) → length (codesOf (s .days) (s .codes)) ≡ s .days
+unfolding codesOf
+length-codes s = length-build (s .days) _
+
+length-rows : (s : Setup) → length (rowsOf (s .authorisations) (s .rows)) ≡ s .authorisations
+unfolding rowsOf
+length-rows s = length-build (s .authorisations) _
+
+pub setup-settled : (s : Setup) → setupFor (setupOf s) ≡ settled s
+unfolding setupFor setupOf settled
+setup-settled s = rw (length-codes s, length-rows s, codes-settled s, rows-settled s)
+
+-- THE ROUND TRIPS, of what `write_setup` leaves and `read_setup` gives
+
+-- for every setup that can be written, reading what was written gives it back, settled
+pub written-setup-reads : (s : Setup) (out : List ℕ) (slots lent1 lent2 : ℕ) → setupWritten (writeSetup (setupOf s) out) .answer ≡ 0
+    → lentWrong (setupOf s) slots lent1 lent2 ≡ false
+    → setupRead (readSetup (writeSetup (setupOf s) out .out) slots lent1 lent2) ≡ record { answer = 0; length = setupWritten (writeSetup (setupOf s) out) .length; setup = settled s }
+unfolding setupWritten setupRead
+written-setup-reads s out slots lent1 lent2 e h =
+    rw (setup-written-reads (setupOf s) out slots lent1 lent2 e h)
+    (ap (λ (x : Setup). record { answer = 0; length = writeSetup (setupOf s) out .length; setup = x }) (setup-settled s))
+
+-- a setup that is read is what its struct holds
+pub read-holds : (bytes : List ℕ) (slots lent1 lent2 : ℕ) → readSetup bytes slots lent1 lent2 .answer ≡ 0
+    → setupOf (setupFor (readSetup bytes slots lent1 lent2 .read)) ≡ readSetup bytes slots lent1 lent2 .read
+read-holds bytes slots lent1 lent2 e =
+    let a = sym (setup-reading-answer bytes slots lent1 lent2) ∙ e in
+    let r = setup-readable bytes slots lent1 lent2 a in
+    rw (setup-reading-done bytes slots lent1 lent2 a) (struct-holds (setupIn bytes) (few-codes (setupIn bytes) (r .counts)) (few-rows (setupIn bytes) (r .counts)))
+
+-- for every byte string that reads, writing the setup gives back exactly those bytes
+pub read-setup-writes : (bytes out : List ℕ) (slots lent1 lent2 : ℕ) → Bytes bytes → Bytes out → setupRead (readSetup bytes slots lent1 lent2) .answer ≡ 0
+    → setupRead (readSetup bytes slots lent1 lent2) .length ≤ length out
+    → writeSetup (setupOf (setupRead (readSetup bytes slots lent1 lent2) .setup)) out
+    ≡ record { answer = 0; length = setupRead (readSetup bytes slots lent1 lent2) .length; out = take (setupRead (readSetup bytes slots lent1 lent2) .length) bytes ++ drop (setupRead (readSetup bytes slots lent1 lent2) .length) out }
+unfolding setupRead
+read-setup-writes bytes out slots lent1 lent2 b c e l =
+    rw (read-holds bytes slots lent1 lent2 e) (setup-read-writes bytes out slots lent1 lent2 b c e l)
