@@ -1,19 +1,18 @@
 -- What a miss and a hit say at each level of the searches of `kinds`: a place, a period, a day, a slot.
-use mathlib.Core.Bool.{Bool, true, false, not, _&&_, true≢false}
+use mathlib.Core.Bool.{Bool, true, false, not, _&&_}
 use mathlib.Core.List.{List, []}
 use mathlib.Core.Logic.{_≢_}
-use mathlib.Core.Path.{_≡_, refl, sym, ap, _∙_}
+use mathlib.Core.Path.{_≡_, refl, ap, _∙_}
 use Prim.Native.Nat.{ℕ, zero, suc, _+_, _-_, _≤_, _<_}
 use native.Mathlib.Nat.{mul-le-mul-right, suc-mul}
 use native.Mathlib.Omega.{arith}
-use lib.Dec.{ltb}
 use lib.IntN.{ℤ}
 use lib.ListN.{length, getD}
 use borrow.Author.Tests.{lt-ltb, le-ltb, le-leb, lt-leb, leb-true, eqb-true, eq-eqb}
 use Rattle.words.specs.Tests.{_≤?_, _=?_, between}
 use Rattle.words.specs.Below.{someBelow}
 use Rattle.words.specs.Lists.{find}
-use Rattle.laws.proofs.Cases.{on, by-lt, and-left, and-right, and-false, and-true, both}
+use Rattle.laws.proofs.Cases.{on, and-left, and-right, and-false, and-true}
 use Rattle.laws.proofs.Below.{some-more, some-hit, some-miss, some-all}
 use Rattle.meaning.specs.Time.{Time, periodsAt, gatesBefore, isOpenAt, days, dayNumber}
 use Rattle.meaning.specs.Authorisations.{sameAccounts}

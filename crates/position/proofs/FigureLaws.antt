@@ -17,18 +17,19 @@ use mir.Val.{SFits}
 use borrow.Author.Tests.{ltb-true, ne-eqb}
 use Rattle.laws.proofs.Machine.{abs-fits}
 use Rattle.laws.proofs.Whole.{abs-neg, abs-add, zero-less}
-use Rattle.laws.proofs.Sums.{sum-ext}
+use Rattle.laws.proofs.Sums.{sum-ext, sum-zero}
 use Rattle.words.specs.Below.{sumBelowℤ}
 use Rattle.words.specs.Rules.{answer}
 use Rattle.meaning.specs.Time.{dayOf}
 use Rattle.meaning.specs.Books as Meaning
-use Rattle.meaning.specs.Authorisations.{Authorisation}
+use Rattle.meaning.specs.Authorisations.{Authorisation, inPair}
 use Rattle.meaning.specs.Ledgers.{contracts, index, originIn}
 use Rattle.meaning.specs.Totals.{counted, aboveZero, belowZero, daySum, sold, bought, figuresRules, figures}
 use Rattle.book.specs.declared.Book.{Book}
 use Rattle.book.specs.Structs.{rowsIn, bookOf}
-use Rattle.position.proofs.TotalLaws.{counted-by-place, Asked}
-use Rattle.position.specs.Counting.{countedAt, partOf, figuresFor}
+use Rattle.position.proofs.TotalLaws.{Asked}
+use Rattle.position.proofs.DayLaws.{counted-from, foreign-none}
+use Rattle.position.specs.Counting.{countedAt, partOf, slotPart, figuresFor}
 use Rattle.position.specs.Totals.{figured}
 
 -- ---- what is below zero, negated; and what is above
@@ -56,19 +57,28 @@ part-small true (negsuc n) = le-refl (suc n)
 part-small false (pos n) = le-refl n
 part-small false (negsuc n) = omega arith
 
--- a slot's parts over the periods of a day, by their places in the tables
-place-next : (n slot d first p : ℕ) → first ≡ index n slot d 1 → first + p ≡ index n slot d (suc p)
-unfolding index
-place-next n slot d first p e = omega (arith, e)
+-- ---- a slot's parts over the periods of a day
 
 pub slot-parts : (b : Book) (held : List ℕ) (side1 side2 : List ℤ) (account d slot periods : ℕ) (below : Bool) (origin : Authorisation) (first : ℕ)
     → origin ≡ originIn (rowsIn (b .setup)) (getD held slot 0) → first ≡ index (b .setup .days) slot d 1
-    → sumBelowℤ periods (λ (p : ℕ). partOf below (countedAt origin account side1 side2 (first + p)))
-    ≡ sumBelowℤ periods (λ (p : ℕ). partOf below (counted (bookOf b held side1 side2) account d (suc p) slot))
+    → slotPart below origin account side1 side2 first periods ≡ sumBelowℤ periods (λ (p : ℕ). partOf below (counted (bookOf b held side1 side2) account d (suc p) slot))
+unfolding slotPart
 slot-parts b held side1 side2 account d slot periods below origin first o f =
     sum-ext periods (λ (p : ℕ). partOf below (countedAt origin account side1 side2 (first + p))) (λ (p : ℕ). partOf below (counted (bookOf b held side1 side2) account d (suc p) slot))
-    (λ p h. ap (partOf below)
-    ((λ i. countedAt (o i) account side1 side2 (place-next (b .setup .days) slot d first p f i)) ∙ sym (counted-by-place b held side1 side2 account d p slot)))
+    (λ p h. ap (partOf below) (counted-from b held side1 side2 account d slot origin first o f p))
+
+part-none : (below : Bool) → partOf below (pos 0) ≡ pos 0
+unfolding partOf
+part-none true = refl
+part-none false = refl
+
+-- of an account that is not of the pair
+pub foreign-parts : (origin : Authorisation) (account : ℕ) (side1 side2 : List ℤ) (first periods : ℕ) (below : Bool) → inPair origin account ≡ false
+    → pos 0 ≡ slotPart below origin account side1 side2 first periods
+unfolding slotPart
+foreign-parts origin account side1 side2 first periods below e =
+    sym (sum-zero periods (λ (p : ℕ). partOf below (countedAt origin account side1 side2 (first + p)))
+    (λ p h. ap (partOf below) (foreign-none origin account side1 side2 (first + p) e) ∙ part-none below))
 
 -- ---- differences
 

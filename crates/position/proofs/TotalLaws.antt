@@ -2,7 +2,7 @@
 use mathlib.Core.Bool.{true, false}
 use mathlib.Core.List.{List}
 use mathlib.Core.Logic.{_≢_}
-use mathlib.Core.Path.{_≡_, refl, sym, ap, _∙_}
+use mathlib.Core.Path.{_≡_, refl, sym, _∙_}
 use Prim.Native.Nat.{ℕ, suc, _+_, _*_, _≤_, _<_}
 use native.Mathlib.Nat.{mul-le-mul}
 use native.Mathlib.Omega.{arith}
@@ -10,27 +10,23 @@ use lib.Dec.{leb, ltb}
 use lib.IntN.{ℤ, pos}
 use lib.ListN.{length, getD}
 use borrow.Author.Tests.{leb-true, le-leb, ltb-true, lt-ltb, le-ltb, ne-eqb, not-false}
-use Rattle.words.specs.Tests.{within}
-use Rattle.words.specs.Lists.{mapAt}
+use Rattle.words.specs.Tests.{if_then_else_, _<?_, within}
 use Rattle.words.specs.Rules.{Rule, answer}
 use Rattle.laws.proofs.Cases.{on, by-lt, and-left, and-right}
-use Rattle.laws.proofs.Lists.{upto, mapAt-same}
+use Rattle.laws.proofs.Lists.{mapAt-same}
 use Rattle.laws.proofs.Rules.{answer-none}
-use Rattle.meaning.specs.Time.{periodsAt, isPeriodAt, days, dayOf, hasDay, isPeriod}
+use Rattle.meaning.specs.Time.{isPeriodAt, days, dayOf, hasDay, isPeriod}
 use Rattle.meaning.specs.Ledgers.{contracts, index, at, originIn}
 use Rattle.meaning.specs.Books as Meaning
 use Rattle.meaning.specs.Books.{hasAccount}
 use Rattle.meaning.specs.Soundness.{sound}
 use Rattle.meaning.specs.Totals.{counted, sumOf, totalRules, total, figuresRules}
-use Rattle.meaning.proofs.Sound.{parts}
-use Rattle.meaning.proofs.Standing.{sound-opens}
 use Rattle.meaning.proofs.Totals.{total-answer, total-is-sum, total-refused}
 use Rattle.book.specs.declared.Book.{Book}
 use Rattle.book.specs.Structs.{rowsIn, bookOf}
 use Rattle.book.proofs.SoundParts.{codes-count}
-use Rattle.position.specs.Counting.{countedAt, sumAnswered, daySums}
+use Rattle.position.specs.Counting.{DayAsked, countedAt, sumAnswered, onFront}
 use Rattle.position.specs.Totals.{totalled, dayPeriods, dayTotalRules, periodTotal, dayTotals}
-use Rattle.position.specs.declared.Totalled.{Totalled}
 
 -- ---- what a slot counts
 
@@ -73,7 +69,6 @@ module _ (b : Meaning.Book contracts) (account D : ℕ) where
     pub has-day : hasDay (b .time) D ≡ true
     pub first : b .time .first ≤ D
     pub inside : dayOf (b .time) D < days (b .time)
-    pub few-slots : length (b .ledger .held) ≤ 256
 
   pub asked : 0 ≡ answer (figuresRules b account D) → Asked
   unfolding figuresRules
@@ -87,8 +82,10 @@ module _ (b : Meaning.Book contracts) (account D : ℕ) where
         has-day = h;
         first = leb-true (b .time .first) D (and-left (leb (b .time .first) D) (ltb (dayOf (b .time) D) (days (b .time))) h);
         inside = ltb-true (dayOf (b .time) D) (days (b .time)) (and-right (leb (b .time .first) D) (ltb (dayOf (b .time) D) (days (b .time))) h);
-        few-slots = sound-opens b (parts b s) .few-slots;
       }
+
+  pub day-asked : Asked → DayAsked b (dayOf (b .time) D)
+  day-asked a = record { is-sound = a .is-sound; inside = a .inside }
 
   -- ---- a total
 
@@ -132,24 +129,6 @@ module _ (b : Meaning.Book contracts) (account D : ℕ) where
 
 -- ---- a whole day of totals
 
-module _ (b : Meaning.Book contracts) (account d : ℕ) where
-  pub sum-stored : (p : ℕ) (old : ℤ) → p < periodsAt (b .time .codes) d → sumAnswered (sumOf b account d (suc p)) .kwh ≡ daySums b account d p old
-  unfolding daySums
-  sum-stored p old h = rw (lt-ltb p (periodsAt (b .time .codes) d) h)
-
-  sum-past : (p : ℕ) (old : ℤ) → periodsAt (b .time .codes) d ≤ p → old ≡ daySums b account d p old
-  unfolding daySums
-  sum-past p old h = rw (le-ltb p (periodsAt (b .time .codes) d) h)
-
-  -- all periods are stored
-  pub all-stored : (lent : List ℤ) → mapAt (upto (periodsAt (b .time .codes) d) (daySums b account d)) lent ≡ mapAt (daySums b account d) lent
-  all-stored lent =
-      let n = periodsAt (b .time .codes) d in
-      mapAt-same (upto n (daySums b account d)) (daySums b account d) lent (pos 0)
-      (λ p h. by-lt p n
-      (λ l. rw (lt-ltb p n l))
-      (λ l. rw (le-ltb p n l) (sum-past p (getD lent p (pos 0)) l)))
-
 module _ (b : Meaning.Book contracts) (account D : ℕ) where
   period-at : Asked b account D → (p : ℕ) → p < dayPeriods b D → isPeriodAt (b .time .codes) (dayOf (b .time) D) (suc p) ≡ true
   unfolding isPeriodAt
@@ -160,22 +139,17 @@ module _ (b : Meaning.Book contracts) (account D : ℕ) where
   unfolding isPeriod
   period-of a p h = rw (le-leb (b .time .first) D (a .first), period-at a p h)
 
-  -- a period's sum, as it is answered, is its total
-  stored-total : Asked b account D → (p : ℕ) → p < dayPeriods b D → sumAnswered (sumOf b account (dayOf (b .time) D) (suc p)) .kwh ≡ total b account D (suc p)
-  unfolding totalled
-  stored-total a p h = ap (λ (t : Totalled). t .kwh) (total-answered b account D (suc p) a (period-at a p h))
-
-  -- where it is answered at all, and every sum of a sound book is
+  -- every sum of a sound book is a total
   pub sum-is-total : Asked b account D → (p : ℕ) → p < dayPeriods b D → sumOf b account (dayOf (b .time) D) (suc p) ≡ total b account D (suc p)
   sum-is-total a p h =
       sym (total-is-sum b account D (suc p)
       (total-answer b account D (suc p) ∙ rw (a .is-sound, a .has-account, period-of a p h)))
 
-  stored-period : Asked b account D → (p : ℕ) (old : ℤ) → daySums b account (dayOf (b .time) D) p old ≡ periodTotal b account D p old
-  unfolding daySums periodTotal
+  stored-period : Asked b account D → (p : ℕ) (old : ℤ) → (if p <? dayPeriods b D then sumOf b account (dayOf (b .time) D) (suc p) else old) ≡ periodTotal b account D p old
+  unfolding periodTotal
   stored-period a p old =
       by-lt p (dayPeriods b D)
-      (λ h. rw (lt-ltb p (dayPeriods b D) h) (stored-total a p h))
+      (λ h. rw (lt-ltb p (dayPeriods b D) h) (sum-is-total a p h))
       (λ h. rw (le-ltb p (dayPeriods b D) h))
 
   module _ (lent : List ℤ) where
@@ -206,10 +180,10 @@ module _ (b : Meaning.Book contracts) (account D : ℕ) where
     day-totals-no-room a h = refused-stays 24 (rw (a .is-sound, a .has-account, a .has-day, lt-ltb (length lent) (dayPeriods b D) h)) (λ q. absurd (omega arith))
 
     pub day-totals-stored : Asked b account D → dayPeriods b D ≤ length lent
-        → (0 ≡ dayAnswer) × (mapAt (daySums b account (dayOf (b .time) D)) lent ≡ dayTotals b account D lent)
+        → (0 ≡ dayAnswer) × (onFront (dayPeriods b D) (λ (p : ℕ) (old : ℤ). sumOf b account (dayOf (b .time) D) (suc p)) lent ≡ dayTotals b account D lent)
     unfolding answer dayTotalRules dayTotals
     day-totals-stored a h = (
       rw (a .is-sound, a .has-account, a .has-day, le-ltb (length lent) (dayPeriods b D) h),
       rw (a .is-sound, a .has-account, a .has-day, le-ltb (length lent) (dayPeriods b D) h)
-          (mapAt-same (daySums b account (dayOf (b .time) D)) (periodTotal b account D) lent (pos 0) (λ p l. stored-period a p (getD lent p (pos 0)))),
+          (mapAt-same (λ (p : ℕ) (old : ℤ). if p <? dayPeriods b D then sumOf b account (dayOf (b .time) D) (suc p) else old) (periodTotal b account D) lent (pos 0) (λ p l. stored-period a p (getD lent p (pos 0)))),
     )

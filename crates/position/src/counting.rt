@@ -1,8 +1,10 @@
 // What a slot counts for an account: matched volumes only, plus for account 1, minus for account 2; and when a question of a day is refused.
 ghost use mathlib.Core.Path.{_≡_};
-ghost use Prim.Native.Nat.{suc, _≤_};
+ghost use Prim.Native.Nat.{suc, _≤_, _<_};
 ghost use lib.IntN.{natAbs};
+ghost use lib.ListN.{length};
 ghost use Rattle.words.specs.Rules.{answer};
+ghost use Rattle.meaning.specs.Authorisations.{inPair};
 ghost use Rattle.meaning.specs.Ledgers.{index};
 ghost use Rattle.meaning.specs.Totals.{matches, seenBy, figuresRules};
 ghost use Rattle.setups.specs.Structs.{rowOf};
@@ -36,6 +38,13 @@ fn seen_by(row: setups::Authorisation, account: u8, v: i32) -> i64
     0
 }
 
+// The account is one of the pair's two; no other sees anything of it.
+pub fn in_pair(row: setups::Authorisation, account: u8) -> bool
+    ensures { λ r. ⌜ r ≡ inPair (rowOf row) account ⌝ }
+{
+    (account == row.account1) | (account == row.account2)
+}
+
 // What a place counts for an account, where its slot's identifier has this originating authorisation.
 pub fn counted_at(
     row: setups::Authorisation,
@@ -44,10 +53,11 @@ pub fn counted_at(
     side2: &[i32],
     place: usize,
 ) -> i64
+    requires { ⌜ (place < length (now side1)) × (place < length (now side2)) ⌝ }
     ensures { λ r. ⌜ (r ≡ countedAt (rowOf row) account (now (side1 .entry)) (now (side2 .entry)) place) × (natAbs r ≤ 2147483648) ⌝ }
 {
-    let v = ledger::volume_at(side1, place);
-    let w = ledger::volume_at(side2, place);
+    let v = side1[place];
+    let w = side2[place];
     if !is_matched(v, w) {
         return 0;
     }

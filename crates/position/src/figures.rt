@@ -1,16 +1,16 @@
 // The day's figures: sold, bought and net MWh, "taking each identifier's matched volume by itself, signed for the account as in totals".
 use crate::DayFigures;
 use crate::Figured;
+use crate::Sums;
 use crate::counting;
+ghost use mathlib.Core.Bool.{true, false};
 ghost use mathlib.Core.Path.{_≡_};
-ghost use Prim.Native.Nat.{ℕ, _+_, _^_, _≤_, _<_};
+ghost use Prim.Native.Nat.{_^_, _≤_, _<_};
 ghost use lib.IntN.{natAbs};
-ghost use lib.ListN.{length};
-ghost use Rattle.words.specs.Below.{sumBelowℤ};
 ghost use Rattle.meaning.specs.Totals.{daySum, mwh};
 ghost use Rattle.setups.specs.Structs.{rowOf};
 ghost use Rattle.book.specs.Structs.{bookOf};
-ghost use Rattle.position.specs.Counting.{countedAt, partOf, figuresFor};
+ghost use Rattle.position.specs.Counting.{DayAsked, PartInside, SumsOf, partOf, slotPart, figuresFor};
 ghost use Rattle.position.specs.Totals.{figured};
 
 const KWH_A_MWH: f64 = 1000.0;
@@ -32,55 +32,68 @@ fn part_of(kwh: i64, below: bool) -> i64
     kwh
 }
 
-// A slot's part over the periods of a day, whose first has this place in the tables.
-fn slot_sum(
-    row: setups::Authorisation,
+// What a slot sold and bought over the periods of a day, whose first has this place in the tables. No branch within the loop but selections.
+fn slot_sums(
+    origin: setups::Authorisation,
     account: u8,
     side1: &[i32],
     side2: &[i32],
     first: usize,
-    periods: u8,
-    below: bool,
-) -> i64
-    requires { ⌜ (periods ≤ 50) × (first ≤ 4294967295) ⌝ }
-    ensures { λ r. ⌜ (r ≡ sumBelowℤ periods (λ (p : ℕ). partOf below (countedAt (rowOf row) account (now (side1 .entry)) (now (side2 .entry)) (first + p)))) × (natAbs r ≤ 107374182400) ⌝ }
+    periods: usize,
+) -> Sums
+    requires { ⌜ PartInside first periods (now side1) (now side2) × (periods ≤ 50) ⌝ }
+    ensures { λ r. do
+      let sum = slotPart false (rowOf origin) account (now (side1 .entry)) (now (side2 .entry)) first periods
+      let negated = slotPart true (rowOf origin) account (now (side1 .entry)) (now (side2 .entry)) first periods
+      ⌜ SumsOf r sum negated 107374182400 ⌝ }
 {
-    let mut kwh: i64 = 0;
-    let mut p: u8 = 0;
+    let mut sold: i64 = 0;
+    let mut bought: i64 = 0;
+    if !counting::in_pair(origin, account) {
+        return Sums {
+            sold: sold,
+            bought: bought,
+        };
+    }
+    let mut p: usize = 0;
     while p < periods {
-        let counted = counting::counted_at(row, account, side1, side2, first + p as usize);
-        kwh += part_of(counted, below);
+        let kwh = counting::counted_at(origin, account, side1, side2, first + p);
+        sold += part_of(kwh, false);
+        bought += part_of(kwh, true);
         p += 1;
     }
-    kwh
+    Sums {
+        sold: sold,
+        bought: bought,
+    }
 }
 
-// The part of all slots over the day at place d. A sound book's slots are few, so the sum fits and is converted exactly.
-fn day_sum(
-    b: book::Book,
-    held: &[u32],
-    side1: &[i32],
-    side2: &[i32],
-    account: u8,
-    d: u8,
-    below: bool,
-) -> i64
-    requires { ⌜ length (now held) ≤ 256 ⌝ }
-    ensures { λ r. ⌜ (r ≡ daySum (partOf below) (bookOf b (now (held .entry)) (now (side1 .entry)) (now (side2 .entry))) account d) × (natAbs r ≤ 27487790694400) ⌝ }
+// What all slots sold and bought over the day at place d. A sound book's slots are few, so the sums fit and are converted exactly.
+fn day_sums(b: book::Book, held: &[u32], side1: &[i32], side2: &[i32], account: u8, d: u8) -> Sums
+    requires { ⌜ DayAsked (bookOf b (now held) (now side1) (now side2)) d ⌝ }
+    ensures { λ r. do
+      let before = bookOf b (now (held .entry)) (now (side1 .entry)) (now (side2 .entry))
+      ⌜ SumsOf r (daySum (partOf false) before account d) (daySum (partOf true) before account d) 27487790694400 ⌝ }
 {
+    let periods = clock::periods_at(book::state::clock_of(b), d) as usize;
     let rows = b.setup.rows;
-    let periods = clock::periods_at(book::state::clock_of(b), d);
-    let mut kwh: i64 = 0;
+    let mut sold: i64 = 0;
+    let mut bought: i64 = 0;
     let mut slot: usize = 0;
     while slot < held.len() {
         let entry = held[slot];
         let row = rows[book::state::origin_place(entry)];
         let origin = book::state::origin_row(b.setup.authorisations, entry, row);
         let first = counting::place_of(slot as u8, b.setup.days, d, 0);
-        kwh += slot_sum(origin, account, side1, side2, first, periods, below);
+        let sums = slot_sums(origin, account, side1, side2, first, periods);
+        sold += sums.sold;
+        bought += sums.bought;
         slot += 1;
     }
-    kwh
+    Sums {
+        sold: sold,
+        bought: bought,
+    }
 }
 
 // "made a 64-bit float and divided by 1000 once"
@@ -124,10 +137,9 @@ pub fn figures(
     }
     let s = b.setup;
     let d = (day - s.first) as u8;
-    let sold = day_sum(b, held, side1, side2, account, d, false);
-    let bought = day_sum(b, held, side1, side2, account, d, true);
+    let sums = day_sums(b, held, side1, side2, account, d);
     Figured {
         answer: 0,
-        day: day_figures(sold, bought),
+        day: day_figures(sums.sold, sums.bought),
     }
 }

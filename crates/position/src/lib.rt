@@ -10,6 +10,12 @@ pub struct Totalled {
     pub kwh: i64,
 }
 
+// What an account sold and what it bought, in whole kWh.
+pub struct Sums {
+    pub sold: i64,
+    pub bought: i64,
+}
+
 // In MWh.
 #[repr(C)]
 pub struct DayFigures {

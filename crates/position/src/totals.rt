@@ -2,14 +2,15 @@
 use crate::Totalled;
 use crate::counting;
 ghost use mathlib.Core.Path.{_≡_};
-ghost use Prim.Native.Nat.{suc, _≤_};
-ghost use lib.ListN.{length};
-ghost use Rattle.words.specs.Lists.{mapAt};
+ghost use Prim.Native.Nat.{ℕ, suc, _+_, _≤_, _<_};
+ghost use lib.IntN.{ℤ, pos, natAbs, _+ℤ_};
+ghost use lib.ListN.{length, getD};
 ghost use Rattle.words.specs.Rules.{answer};
 ghost use Rattle.meaning.specs.Time.{periodsAt};
 ghost use Rattle.meaning.specs.Totals.{sumOf};
+ghost use Rattle.setups.specs.Structs.{rowOf};
 ghost use Rattle.book.specs.Structs.{timeIn, bookOf};
-ghost use Rattle.position.specs.Counting.{sumAnswered, daySums};
+ghost use Rattle.position.specs.Counting.{DayAsked, PartInside, countedAt, sumAnswered, onFront};
 ghost use Rattle.position.specs.Totals.{totalled, dayTotalRules, dayTotals};
 
 const LEAST_TOTAL: i64 = -99999999999;
@@ -42,7 +43,7 @@ fn sum_of(
     d: u8,
     p: u8,
 ) -> i64
-    requires { ⌜ length (now held) ≤ 256 ⌝ }
+    requires { ⌜ DayAsked (bookOf b (now held) (now side1) (now side2)) d × (p < 50) ⌝ }
     ensures { λ r. ⌜ r ≡ sumOf (bookOf b (now (held .entry)) (now (side1 .entry)) (now (side2 .entry))) account d (suc p) ⌝ }
 {
     let rows = b.setup.rows;
@@ -90,7 +91,41 @@ pub fn total(
     answered(sum_of(b, held, side1, side2, account, d, period - 1))
 }
 
-// Every period of the day at place d: one pass over what is lent.
+// Nothing counted yet in any of the day's periods.
+fn clear(out: &mut [i64], periods: usize)
+    requires { ⌜ periods ≤ length (now out) ⌝ }
+    ensures { λ r. ⌜ now (out .exit) ≡ onFront periods (λ (p : ℕ) (old : ℤ). pos 0) (now (out .entry)) ⌝ }
+{
+    for place in 0..periods {
+        out[place] = 0;
+    }
+}
+
+// Adds what a slot counts in each period of the day, the first of which has this place in the tables. No branch within the loop, so that it runs on
+// vectors; most slots are of other accounts and are passed over.
+fn add_slot(
+    origin: setups::Authorisation,
+    account: u8,
+    side1: &[i32],
+    side2: &[i32],
+    first: usize,
+    periods: usize,
+    out: &mut [i64],
+)
+    requires { ⌜ PartInside first periods (now side1) (now side2) × (periods ≤ length (now out)) × ((p : ℕ) → p < periods → natAbs (getD (now out) p (pos 0)) ≤ 25600000000) ⌝ }
+    ensures { λ r. ⌜ now (out .exit) ≡ onFront periods (λ (p : ℕ) (old : ℤ). old +ℤ countedAt (rowOf origin) account (now (side1 .entry)) (now (side2 .entry)) (first + p)) (now (out .entry)) ⌝ }
+{
+    if !counting::in_pair(origin, account) {
+        return;
+    }
+    for p in 0..periods {
+        let kwh = counting::counted_at(origin, account, side1, side2, first + p);
+        let so_far = out[p];
+        out[p] = so_far + kwh;
+    }
+}
+
+// What all slots count together in every period of the day at place d: one pass over what is lent. Of a sound book each sum is a total: 26 never comes.
 fn store_totals(
     b: book::Book,
     held: &[u32],
@@ -100,16 +135,20 @@ fn store_totals(
     d: u8,
     out: &mut [i64],
 )
-    requires { ⌜ (length (now held) ≤ 256) × (periodsAt (timeIn b .codes) d ≤ length (now out)) ⌝ }
-    ensures { λ r. ⌜ now (out .exit) ≡ mapAt (daySums (bookOf b (now (held .entry)) (now (side1 .entry)) (now (side2 .entry))) account d) (now (out .entry)) ⌝ }
+    requires { ⌜ DayAsked (bookOf b (now held) (now side1) (now side2)) d × (periodsAt (timeIn b .codes) d ≤ length (now out)) ⌝ }
+    ensures { λ r. do
+      let before = bookOf b (now (held .entry)) (now (side1 .entry)) (now (side2 .entry))
+      ⌜ now (out .exit) ≡ onFront (periodsAt (timeIn b .codes) d) (λ (p : ℕ) (old : ℤ). sumOf before account d (suc p)) (now (out .entry)) ⌝ }
 {
-    let periods = clock::periods_at(book::state::clock_of(b), d);
-    let mut p: u8 = 0;
-    while p < periods {
-        let t = answered(sum_of(b, held, side1, side2, account, d, p));
-        let kwh = t.kwh;
-        out[p as usize] = kwh;
-        p += 1;
+    let periods = clock::periods_at(book::state::clock_of(b), d) as usize;
+    clear(out, periods);
+    let rows = b.setup.rows;
+    for slot in 0..held.len() {
+        let entry = held[slot];
+        let row = rows[book::state::origin_place(entry)];
+        let origin = book::state::origin_row(b.setup.authorisations, entry, row);
+        let first = counting::place_of(slot as u8, b.setup.days, d, 0);
+        add_slot(origin, account, side1, side2, first, periods, out);
     }
 }
 

@@ -17,11 +17,17 @@ use Rattle.position.specs.Counting.{countedAt}
 use Rattle.position.proofs.counting.counted_at.Statement.{statement}
 use Rattle.position.proofs.counting.counted_at.Tie as tie
 
-volume-at-requires : tie.Need-volume-at-requires
-volume-at-requires c κs = search needs
+mul-v : tie.Need-mul-v
+mul-v c = search needs
 
-volume-at-requires-2 : tie.Need-volume-at-requires-2
-volume-at-requires-2 c κs = search needs
+shared-slice-copy-out-v : tie.Need-shared-slice-copy-out-v
+shared-slice-copy-out-v c = c .pre .0
+
+mul-w : tie.Need-mul-w
+mul-w c = search needs
+
+shared-slice-copy-out-w : tie.Need-shared-slice-copy-out-w
+shared-slice-copy-out-w c = c .before .pre .1
 
 is-matched-requires : tie.Need-is-matched-requires
 is-matched-requires c κs = search needs
@@ -37,9 +43,7 @@ module _ (s : tie.Start) where
 matched : (c : tie.After-is-matched) → let s = c .before .before .before in c .is-matched .result ≡ matches (first s) (second s)
 matched c =
     c .is-matched .ensures
-    ∙ ap₂ matches
-    (back w32 (c .before .before .volume-at .result) (c .before .before .volume-at .ok) ∙ c .before .before .volume-at .ensures)
-    (back w32 (c .before .volume-at2 .result) (c .before .volume-at2 .ok) ∙ c .before .volume-at2 .ensures)
+    ∙ (let s = c .before .before .before in ap₂ matches (back w32 (first s) (c .before .before .v .given)) (back w32 (second s) (c .before .w .given)))
 
 returns : tie.Need-returns
 unfolding countedAt
@@ -58,20 +62,23 @@ returns-2 c =
     let s = p .before .before .before in
     let origin = rowOf (s .args .row) in
     let account = s .args .account in
-    let v = p .before .before .volume-at in
+    let v = first s in
+    let fits = p .before .before .v .given in
     let r = c .seen-by .result in
     let e : matches (first s) (second s) ≡ true = sym (matched p) ∙ not-false (p .is-matched .result) (c .before .if1 .left) in
-    let seen : r ≡ seenBy origin account (v .result) = c .seen-by .ensures ∙ ap (seenBy origin account) (back w32 (v .result) (v .ok)) in (
-      back w64 r (c .seen-by .ok) ∙ seen ∙ ap (seenBy origin account) (v .ensures) ∙ rw e,
-      rw (back w64 r (c .seen-by .ok), seen) (omega (arith, seen-le origin (v .result) account, natAbs-le (v .result) (v .ok))),
+    let seen : r ≡ seenBy origin account v = c .seen-by .ensures ∙ ap (seenBy origin account) (back w32 v fits) in (
+      back w64 r (c .seen-by .ok) ∙ seen ∙ rw e,
+      rw (back w64 r (c .seen-by .ok), seen) (omega (arith, seen-le origin v account, natAbs-le v fits)),
     )
 
 pub counted-at-spec : {M : Type 1} → statement M
 counted-at-spec =
     tie.close
     (tie.spec
-    volume-at-requires
-    volume-at-requires-2
+    mul-v
+    shared-slice-copy-out-v
+    mul-w
+    shared-slice-copy-out-w
     is-matched-requires
     returns
     seen-by-requires

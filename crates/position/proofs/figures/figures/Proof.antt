@@ -1,19 +1,22 @@
 -- A refusal gives three zeros; past it two sums and their difference are converted.
 use borrow.Author.Needs.{needs}
-use mathlib.Core.Path.{sym, ap, ap₂, _∙_}
+use mathlib.Core.Path.{_≡_, sym, ap, ap₂, _∙_}
 use native.Mathlib.Omega.{arith}
 use denote.Ref.{now}
+use mir.Facts.{toZ-ofZ}
 use mir.Syntax.{w64}
-use Rattle.laws.proofs.Machine.{back}
+use mir.Val.{toZ, ofZ}
+use Rattle.laws.proofs.Machine.{abs-fits}
 use Rattle.meaning.specs.Ledgers.{contracts}
 use Rattle.meaning.specs.Books as Meaning
 use Rattle.book.specs.Structs.{bookOf}
 use Rattle.book.proofs.SoundParts.{codes-count}
 use Rattle.book.proofs.StateLaws.{days-few}
 use Rattle.position.specs.Counting.{figuresFor}
+use Rattle.position.specs.declared.Sums.{Sums}
 use Rattle.position.specs.declared.DayFigures.{DayFigures}
 use Rattle.position.specs.declared.Figured.{Figured}
-use Rattle.position.proofs.TotalLaws.{Asked, asked}
+use Rattle.position.proofs.TotalLaws.{Asked, asked, day-asked}
 use Rattle.position.proofs.FigureLaws.{figures-refused, figures-given}
 use Rattle.position.proofs.figures.figures.Statement.{statement}
 use Rattle.position.proofs.figures.figures.Tie as tie
@@ -48,28 +51,35 @@ cast-d c =
     let s = c .before .before .before .before .before in
     omega (arith, given (c .before .before) .inside, codes-count (s .args .b), days-few (s .args .b) (s .good .0))
 
-day-sum-requires : tie.Need-day-sum-requires
-day-sum-requires c κs = given (c .before .before) .few-slots
+day-sums-requires : tie.Need-day-sums-requires
+day-sums-requires c κs =
+    let p = c .before .before in
+    let s = p .before .before .before in
+    day-asked (whole s) (s .args .account) (s .args .day) (given p)
 
-day-sum-requires-2 : tie.Need-day-sum-requires-2
-day-sum-requires-2 c κs = given (c .before .before .before) .few-slots
+-- the two sums, as they are handed over
+module _ (c : tie.After-day-sums) where
+  abbrev sums : Sums
+  sums = c .day-sums .result
+
+  sold-back : toZ w64 (ofZ w64 (sums .sold)) ≡ sums .sold
+  sold-back = toZ-ofZ {w = w64} (abs-fits (omega (arith, c .day-sums .ensures .sold-fits)))
+
+  bought-back : toZ w64 (ofZ w64 (sums .bought)) ≡ sums .bought
+  bought-back = toZ-ofZ {w = w64} (abs-fits (omega (arith, c .day-sums .ensures .bought-fits)))
 
 day-figures-requires-2 : tie.Need-day-figures-requires-2
 day-figures-requires-2 c κs =
-    let sold = c .before .day-sum in
-    let bought = c .day-sum2 in
-    (rw (back w64 (sold .result) (sold .ok)) (sold .ensures .1), rw (back w64 (bought .result) (bought .ok)) (bought .ensures .1))
+    let q = c .before .before in
+    (rw (sold-back q) (q .day-sums .ensures .sold-fits), rw (bought-back q) (q .day-sums .ensures .bought-fits))
 
 returns-2 : tie.Need-returns-2
 returns-2 c =
-    let p = c .before .before .before .before .before in
+    let q = c .before .before .before in
+    let p = q .before .before .before in
     let s = p .before .before .before in
-    let sold = c .before .before .day-sum in
-    let bought = c .before .day-sum2 in
     let made : DayFigures → Figured = λ (f : DayFigures). record { answer = 0; day = f } in
-    ap made
-    (c .day-figures2 .ensures
-    ∙ ap₂ figuresFor (back w64 (sold .result) (sold .ok) ∙ sold .ensures .0) (back w64 (bought .result) (bought .ok) ∙ bought .ensures .0))
+    ap made (c .day-figures2 .ensures ∙ ap₂ figuresFor (sold-back q ∙ q .day-sums .ensures .sold-is) (bought-back q ∙ q .day-sums .ensures .bought-is))
     ∙ figures-given (whole s) (s .args .account) (s .args .day) (given p)
 
 pub figures-spec : {M : Type 1} → statement M
@@ -81,7 +91,6 @@ figures-spec =
     returns
     sub-d
     cast-d
-    day-sum-requires
-    day-sum-requires-2
+    day-sums-requires
     day-figures-requires-2
     returns-2)

@@ -9,7 +9,7 @@ use Rattle.meaning.specs.Books as Meaning
 use Rattle.book.specs.Structs.{timeIn, bookOf}
 use Rattle.book.proofs.SoundParts.{codes-count}
 use Rattle.book.proofs.StateLaws.{clock-time, days-few}
-use Rattle.position.proofs.TotalLaws.{Asked, asked, day-totals-refused, day-totals-no-room, day-totals-stored}
+use Rattle.position.proofs.TotalLaws.{Asked, asked, day-asked, day-totals-refused, day-totals-no-room, day-totals-stored}
 use Rattle.position.proofs.totals.day_totals.Statement.{statement}
 use Rattle.position.proofs.totals.day_totals.Tie as tie
 
@@ -64,7 +64,9 @@ returns-2 c =
 store-totals-requires : tie.Need-store-totals-requires
 store-totals-requires c κs =
     let q = c .before in
-    (given (q .before .before .before .before .before) .few-slots, omega (arith, day-periods (q .before)))
+    let p = q .before .before .before .before .before in
+    let s = p .before .before .before in
+    (day-asked (whole s) (s .args .account) (s .args .day) (given p), omega (arith, day-periods (q .before)))
 
 same-length : tie.Need-same-length
 same-length c = search needs

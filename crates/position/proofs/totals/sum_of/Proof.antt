@@ -12,6 +12,7 @@ use Rattle.book.specs.Structs.{bookOf}
 use Rattle.book.proofs.StateLaws.{rows-length, place-few, origin-read}
 use Rattle.position.specs.Counting.{countedAt}
 use Rattle.position.proofs.TotalLaws.{counted-by-place}
+use Rattle.position.proofs.DayLaws.{slots-few, place-inside}
 use Rattle.position.proofs.totals.sum_of.Statement.{statement}
 use Rattle.position.proofs.totals.sum_of.Tie as tie
 
@@ -21,6 +22,10 @@ Inv-loop b held side1 side2 account d p rows kwh₀ slot₀ kwh slot =
 
 abbrev μ-loop : tie.MeasureT-loop
 μ-loop b held side1 side2 account d p rows kwh₀ slot₀ kwh slot = length held - slot
+
+-- a sound book's slots are few
+few : (s : tie.Start Inv-loop μ-loop) → length (now (s .args .held)) ≤ 256
+few s = slots-few (s .args .b) (now (s .args .held)) (now (s .args .side1)) (now (s .args .side2)) (s .args .d) (s .pre .0)
 
 loop-holds : tie.Need-loop-holds Inv-loop μ-loop
 loop-holds c = (omega arith, gathered-none _ _)
@@ -44,13 +49,16 @@ origin-row-requires : tie.Need-origin-row-requires Inv-loop μ-loop
 origin-row-requires c κs = search needs
 
 cast-place-of : tie.Need-cast-place-of Inv-loop μ-loop
-cast-place-of c = omega arith
+cast-place-of c = omega (arith, few (c .before .before .before .before .before .before .before .before))
 
 place-of-requires : tie.Need-place-of-requires Inv-loop μ-loop
 place-of-requires c κs = search needs
 
 counted-at-requires : tie.Need-counted-at-requires Inv-loop μ-loop
-counted-at-requires c κs = search needs
+counted-at-requires c κs =
+    let l = c .before .before .before .before .before .before in
+    let s = l .before .before .before in
+    place-inside (s .args .b) (now (s .args .held)) (now (s .args .side1)) (now (s .args .side2)) (s .args .d) (s .pre .0) (l .loop .slot) (c .place-of .result) (s .args .p) (omega arith) (c .place-of .ensures) (s .pre .1)
 
 -- a turn: what the slot counts
 module _ (c : tie.After-counted-at Inv-loop μ-loop) where
@@ -77,7 +85,7 @@ module _ (c : tie.After-counted-at Inv-loop μ-loop) where
   small = rw (← term) (c .counted-at .ensures .1)
 
 add-kwh : tie.Need-add-kwh Inv-loop μ-loop
-add-kwh c = gathered-fits (c .counted-at .result) (at-loop c .loop .inv .1) (term c) (small c) (omega arith)
+add-kwh c = gathered-fits (c .counted-at .result) (at-loop c .loop .inv .1) (term c) (small c) (omega (arith, few (start c)))
 
 add-slot : tie.Need-add-slot Inv-loop μ-loop
 add-slot c = search needs
@@ -87,14 +95,14 @@ loop-less c = search needs
 
 loop-again : tie.Need-loop-again Inv-loop μ-loop
 loop-again c =
-    (omega arith, gathered-more (c .counted-at .result) (at-loop c .loop .inv .1) (term c) (small c) (omega arith))
+    (omega arith, gathered-more (c .counted-at .result) (at-loop c .loop .inv .1) (term c) (small c) (omega (arith, few (start c))))
 
 returns : tie.Need-returns Inv-loop μ-loop
 unfolding sumOf
 returns c =
     let l = c .before .loop in
     let e : l .slot ≡ length (now (c .before .before .before .before .args .held)) = omega arith in
-    gathered-reads (l .inv .1) (omega arith) ∙ rw e
+    gathered-reads (l .inv .1) (omega (arith, few (c .before .before .before .before))) ∙ rw e
 
 pub sum-of-spec : {M : Type 1} → statement M
 sum-of-spec =

@@ -17,7 +17,7 @@ use Rattle.book.specs.Structs.{timeIn, bookOf}
 use Rattle.book.proofs.SoundParts.{codes-count}
 use Rattle.book.proofs.StateLaws.{clock-time, days-few}
 use Rattle.position.specs.Counting.{sumAnswered}
-use Rattle.position.proofs.TotalLaws.{Asked, asked, total-day-refused, total-no-period, total-answered}
+use Rattle.position.proofs.TotalLaws.{Asked, asked, day-asked, total-day-refused, total-no-period, total-answered}
 use Rattle.position.proofs.totals.total.Statement.{statement}
 use Rattle.position.proofs.totals.total.Tie as tie
 
@@ -77,7 +77,14 @@ sub-sum-of c =
     omega (arith, is-period (timeIn (a .b) .codes) (dayOf (timeIn (a .b)) (a .day)) (a .period) (period-given c) .low)
 
 sum-of-requires : tie.Need-sum-of-requires
-sum-of-requires c κs = given (c .before .before .before .before .before) .few-slots
+sum-of-requires c κs =
+    let p = c .before .before .before .before .before in
+    let s = p .before .before .before in
+    let a = s .args in
+    let d = dayOf (timeIn (a .b)) (a .day) in (
+      day-asked (whole s) (a .account) (a .day) (given p),
+      omega (arith, is-period (timeIn (a .b) .codes) d (a .period) (period-given c) .low, is-period (timeIn (a .b) .codes) d (a .period) (period-given c) .most),
+    )
 
 answered-requires : tie.Need-answered-requires
 answered-requires c κs = search needs
