@@ -89,9 +89,10 @@ pub(crate) fn do_notification(
     }
     let slot = told.slot as usize;
     let c = state::clock_of(b);
+    let row = state::row_of(b, n.authorisation as u32);
     held[slot] = checks::slots::entry_of(n);
-    write_side(side1, kinds::writes_side1(b, n), c, slot as u8, n);
-    write_side(side2, kinds::writes_side2(b, n), c, slot as u8, n);
+    write_side(side1, kinds::writes_side1(row, n.agent), c, slot as u8, n);
+    write_side(side2, kinds::writes_side2(row, n.agent), c, slot as u8, n);
     told
 }
 

@@ -15,12 +15,16 @@ use Rattle.words.specs.Lists.{find}
 use Rattle.laws.proofs.Cases.{on, and-left, and-right, and-false, and-true}
 use Rattle.laws.proofs.Below.{some-more, some-hit, some-miss, some-all}
 use Rattle.meaning.specs.Time.{Time, periodsAt, gatesBefore, isOpenAt, days, dayNumber}
-use Rattle.meaning.specs.Authorisations.{sameAccounts}
+use Rattle.meaning.specs.Authorisations.{Authorisation, rowAt, sameAccounts}
 use Rattle.meaning.specs.Ledgers.{contracts, one, two, index, at, originIn, isHeld, places}
 use Rattle.meaning.specs.Messages.{Notification, writes}
 use Rattle.meaning.specs.Books as Books
 use Rattle.meaning.specs.Notifications.{under, statesAt, statesOn, statesOpenOn, isReplacement, isOther, overlaps, isAdditional, kindOf, kindNumber}
 use Rattle.meaning.proofs.Clock.{periods-le}
+use Rattle.messages.specs.declared.Notification as messages
+use Rattle.messages.specs.Structs.{notificationOf}
+use Rattle.setups.specs.declared.Authorisation as setups
+use Rattle.setups.specs.Structs.{rowOf}
 use Rattle.setups.proofs.SetupHeld.{codes-own}
 use Rattle.book.specs.declared.Book.{Book}
 use Rattle.book.specs.Structs.{timeIn, rowsIn, bookOf}
@@ -97,6 +101,17 @@ module _ (b : Books.Book contracts) (n : Notification contracts) (s : ℕ) where
       on (n .first ≤? dayNumber (b .time) d)
       (λ e. rw (e, some-hit (periodsAt (b .time .codes) d) (λ (q : ℕ). statesAt b n s d (suc q)) p (rw e at l) h))
       (λ e. absurd (omega (arith, rw e at l)))
+
+-- ---- the sides that are written, by the row of its authorisation
+
+module _ (b : Book) (n : messages.Notification) (row : setups.Authorisation) (e : rowOf row ≡ rowAt (rowsIn (b .setup)) (n .authorisation)) where
+  pub row-writes-one : n .agent =? row .agent1 ≡ writes (rowsIn (b .setup)) (notificationOf n) one
+  unfolding writes notificationOf
+  row-writes-one = ap (λ (a : Authorisation). n .agent =? a .agent1) e
+
+  pub row-writes-two : n .agent =? row .agent2 ≡ writes (rowsIn (b .setup)) (notificationOf n) two
+  unfolding writes notificationOf
+  row-writes-two = ap (λ (a : Authorisation). n .agent =? a .agent2) e
 
 -- ---- a place, by the sides that are written
 

@@ -6,10 +6,9 @@ ghost use mathlib.Core.Path.{_≡_};
 ghost use Prim.Native.Nat.{_-_};
 ghost use lib.ListN.{length, getD};
 ghost use Rattle.words.specs.Below.{someBelow};
+ghost use Rattle.words.specs.Tests.{_=?_};
 ghost use Rattle.meaning.specs.Time.{gatesBefore};
 ghost use Rattle.meaning.specs.Authorisations.{rowAt};
-ghost use Rattle.meaning.specs.Ledgers.{one, two};
-ghost use Rattle.meaning.specs.Messages.{writes};
 ghost use Rattle.meaning.specs.Notifications.{isReplacement, isOther, overlaps, kindOf, kindNumber};
 ghost use Rattle.messages.specs.Structs.{notificationOf};
 ghost use Rattle.setups.specs.Structs.{noAuthorisation, rowOf};
@@ -22,24 +21,22 @@ const REPLACEMENT: u8 = 2;
 
 const ADDITIONAL: u8 = 3;
 
-// The notification writes side 1: it is sent by agent 1.
-pub fn writes_side1(b: Book, n: messages::Notification) -> bool
-    ensures { λ r. ⌜ r ≡ writes (rowsIn (b .setup)) (notificationOf n) one ⌝ }
+// An agent writes side 1 under an authorisation: it is its agent 1. The row is handed over, here and below, since reading one out of a book copies all of
+// them.
+pub fn writes_side1(row: setups::Authorisation, agent: u8) -> bool
+    ensures { λ r. ⌜ r ≡ agent =? row .agent1 ⌝ }
 {
-    let row = state::row_of(b, n.authorisation as u32);
-    n.agent == row.agent1
+    agent == row.agent1
 }
 
-// The notification writes side 2: it is sent by agent 2.
-pub fn writes_side2(b: Book, n: messages::Notification) -> bool
-    ensures { λ r. ⌜ r ≡ writes (rowsIn (b .setup)) (notificationOf n) two ⌝ }
+// An agent writes side 2 under an authorisation: it is its agent 2.
+pub fn writes_side2(row: setups::Authorisation, agent: u8) -> bool
+    ensures { λ r. ⌜ r ≡ agent =? row .agent2 ⌝ }
 {
-    let row = state::row_of(b, n.authorisation as u32);
-    n.agent == row.agent2
+    agent == row.agent2
 }
 
-// A slot, by its entry, holds another identifier of the same account 1 and account 2. Both rows are handed over, since reading one out of a book copies
-// all of them.
+// A slot, by its entry, holds another identifier of the same account 1 and account 2.
 fn is_other(
     b: Book,
     n: messages::Notification,
@@ -121,13 +118,13 @@ fn is_overlapped(
     side1: &[i32],
     side2: &[i32],
     n: messages::Notification,
+    mine: setups::Authorisation,
 ) -> bool
-    requires { ⌜ Fits b (now held) (now side1) (now side2) ⌝ }
+    requires { ⌜ Fits b (now held) (now side1) (now side2) × (rowOf mine ≡ rowAt (rowsIn (b .setup)) (n .authorisation)) ⌝ }
     ensures { λ r. ⌜ r ≡ someBelow (length (now (held .entry))) (overlaps (bookOf b (now (held .entry)) (now (side1 .entry)) (now (side2 .entry))) (notificationOf n)) ⌝ }
 {
-    let w1 = writes_side1(b, n);
-    let w2 = writes_side2(b, n);
-    let mine = state::row_of(b, n.authorisation as u32);
+    let w1 = writes_side1(mine, n.agent);
+    let w2 = writes_side2(mine, n.agent);
     let setup = b.setup;
     let days = setup.days;
     let mut found = false;
@@ -151,12 +148,19 @@ fn is_overlapped(
 }
 
 // A slot states something on a side that is written, on the notification's first day or later.
-fn states_from(b: Book, side1: &[i32], side2: &[i32], n: messages::Notification, s: usize) -> bool
-    requires { ⌜ SlotInside b (now side1) (now side2) s ⌝ }
+fn states_from(
+    b: Book,
+    side1: &[i32],
+    side2: &[i32],
+    n: messages::Notification,
+    mine: setups::Authorisation,
+    s: usize,
+) -> bool
+    requires { ⌜ SlotInside b (now side1) (now side2) s × (rowOf mine ≡ rowAt (rowsIn (b .setup)) (n .authorisation)) ⌝ }
     ensures { λ r. ⌜ r ≡ someBelow (b .setup .days) (fromFirst (bookOf b [] (now (side1 .entry)) (now (side2 .entry))) (notificationOf n) s) ⌝ }
 {
-    let w1 = writes_side1(b, n);
-    let w2 = writes_side2(b, n);
+    let w1 = writes_side1(mine, n.agent);
+    let w2 = writes_side2(mine, n.agent);
     let days = b.setup.days;
     let mut found = false;
     'search: for d in 0..days {
@@ -178,8 +182,9 @@ fn is_replacement(
     side1: &[i32],
     side2: &[i32],
     n: messages::Notification,
+    mine: setups::Authorisation,
 ) -> bool
-    requires { ⌜ Fits b (now held) (now side1) (now side2) ⌝ }
+    requires { ⌜ Fits b (now held) (now side1) (now side2) × (rowOf mine ≡ rowAt (rowsIn (b .setup)) (n .authorisation)) ⌝ }
     ensures { λ r. ⌜ r ≡ isReplacement (bookOf b (now (held .entry)) (now (side1 .entry)) (now (side2 .entry))) (notificationOf n) ⌝ }
 {
     let entry = n.originator as u32 * ledger::REFERENCES + n.reference as u32 + 1;
@@ -187,7 +192,7 @@ fn is_replacement(
     if held.len() <= slot {
         return false;
     }
-    states_from(b, side1, side2, n, slot)
+    states_from(b, side1, side2, n, mine, slot)
 }
 
 // On tables that fit: the number of the kind.
@@ -195,10 +200,11 @@ fn kind_in(b: Book, held: &[u32], side1: &[i32], side2: &[i32], n: messages::Not
     requires { ⌜ Fits b (now held) (now side1) (now side2) ⌝ }
     ensures { λ r. ⌜ r ≡ kindNumber (kindOf (bookOf b (now (held .entry)) (now (side1 .entry)) (now (side2 .entry))) (notificationOf n)) ⌝ }
 {
-    if is_replacement(b, held, side1, side2, n) {
+    let mine = state::row_of(b, n.authorisation as u32);
+    if is_replacement(b, held, side1, side2, n, mine) {
         return REPLACEMENT;
     }
-    if is_overlapped(b, held, side1, side2, n) {
+    if is_overlapped(b, held, side1, side2, n, mine) {
         return ADDITIONAL;
     }
     INITIAL

@@ -10,35 +10,37 @@ use lib.ListN.{length, getD}
 use Rattle.words.specs.Below.{someBelow}
 use Rattle.laws.proofs.Below.{some-none, some-hit}
 use Rattle.meaning.specs.Time.{gatesBefore}
+use Rattle.meaning.specs.Ledgers.{one, two}
+use Rattle.meaning.specs.Messages.{writes}
 use Rattle.meaning.specs.Notifications.{overlaps}
 use Rattle.messages.specs.Structs.{notificationOf}
 use Rattle.setups.specs.Structs.{noAuthorisation}
 use Rattle.setups.proofs.SetupHeld.{codes-own}
-use Rattle.book.specs.Structs.{bookOf, timeIn}
+use Rattle.book.specs.Structs.{bookOf, timeIn, rowsIn}
 use Rattle.book.proofs.StateLaws.{place-few}
 use Rattle.kinds.specs.Kinds.{periodsWithin}
-use Rattle.kinds.proofs.KindLaws.{some-keep, some-upto, onPeriod, onDay, slot-skip, slot-miss, slot-hit, day-miss, day-hit, closed-miss, open-states, within-few, slot-inside, place-inside, other-any}
+use Rattle.kinds.proofs.KindLaws.{some-keep, some-upto, onPeriod, onDay, slot-skip, slot-miss, slot-hit, day-miss, day-hit, closed-miss, open-states, within-few, slot-inside, place-inside, row-writes-one, row-writes-two, other-any}
 use Rattle.kinds.proofs.is_overlapped.Statement.{statement}
 use Rattle.kinds.proofs.is_overlapped.Tie as tie
 
 abbrev Inv-loop2 : tie.InvT-loop2
-Inv-loop2 b held side1 side2 n w1 w2 mine setup days found₀ s entry d first periods p₀ s-end found p =
+Inv-loop2 b held side1 side2 n mine w1 w2 setup days found₀ s entry d first periods p₀ s-end found p =
     (found ≡ false) × ((first ≤ p) × (someBelow p (onPeriod (bookOf b held side1 side2) (notificationOf n) s d) ≡ false))
 
 abbrev μ-loop2 : tie.MeasureT-loop2
-μ-loop2 b held side1 side2 n w1 w2 mine setup days found₀ s entry d first periods p₀ s-end found p = periods - p
+μ-loop2 b held side1 side2 n mine w1 w2 setup days found₀ s entry d first periods p₀ s-end found p = periods - p
 
 abbrev Inv-loop : tie.InvT-loop
-Inv-loop b held side1 side2 n w1 w2 mine setup days found₀ s entry d₀ s-end found d = (found ≡ false) × (someBelow d (onDay (bookOf b held side1 side2) (notificationOf n) s) ≡ false)
+Inv-loop b held side1 side2 n mine w1 w2 setup days found₀ s entry d₀ s-end found d = (found ≡ false) × (someBelow d (onDay (bookOf b held side1 side2) (notificationOf n) s) ≡ false)
 
 abbrev μ-loop : tie.MeasureT-loop
-μ-loop b held side1 side2 n w1 w2 mine setup days found₀ s entry d₀ s-end found d = days - d
+μ-loop b held side1 side2 n mine w1 w2 setup days found₀ s entry d₀ s-end found d = days - d
 
 abbrev Inv-search : tie.InvT-search
-Inv-search b held side1 side2 n w1 w2 mine setup days found₀ s₀ s-end found s = (found ≡ false) × (someBelow s (overlaps (bookOf b held side1 side2) (notificationOf n)) ≡ false)
+Inv-search b held side1 side2 n mine w1 w2 setup days found₀ s₀ s-end found s = (found ≡ false) × (someBelow s (overlaps (bookOf b held side1 side2) (notificationOf n)) ≡ false)
 
 abbrev μ-search : tie.MeasureT-search
-μ-search b held side1 side2 n w1 w2 mine setup days found₀ s₀ s-end found s = s-end - s
+μ-search b held side1 side2 n mine w1 w2 setup days found₀ s₀ s-end found s = s-end - s
 
 writes-side1-requires :
     tie.Need-writes-side1-requires Inv-loop2 μ-loop2 Inv-loop μ-loop Inv-search μ-search
@@ -48,11 +50,16 @@ writes-side2-requires :
     tie.Need-writes-side2-requires Inv-loop2 μ-loop2 Inv-loop μ-loop Inv-search μ-search
 writes-side2-requires c κs = search needs
 
-cast-row-of : tie.Need-cast-row-of Inv-loop2 μ-loop2 Inv-loop μ-loop Inv-search μ-search
-cast-row-of c = search needs
+module _ (c : tie.After-writes-side2 Inv-loop2 μ-loop2 Inv-loop μ-loop Inv-search μ-search) where
+  side-one : c .before .writes-side1 .result ≡ writes (rowsIn (c .before .before .before .args .b .setup)) (notificationOf (c .before .before .before .args .n)) one
+  side-one =
+      let start = c .before .before .before in
+      c .before .writes-side1 .ensures ∙ row-writes-one (start .args .b) (start .args .n) (start .args .mine) (start .pre .1)
 
-row-of-requires : tie.Need-row-of-requires Inv-loop2 μ-loop2 Inv-loop μ-loop Inv-search μ-search
-row-of-requires c κs = search needs
+  side-two : c .writes-side2 .result ≡ writes (rowsIn (c .before .before .before .args .b .setup)) (notificationOf (c .before .before .before .args .n)) two
+  side-two =
+      let start = c .before .before .before in
+      c .writes-side2 .ensures ∙ row-writes-two (start .args .b) (start .args .n) (start .args .mine) (start .pre .1)
 
 search-holds : tie.Need-search-holds Inv-loop2 μ-loop2 Inv-loop μ-loop Inv-search μ-search
 search-holds c = (refl, some-none _)
@@ -78,8 +85,8 @@ element-copy-out-row c = omega (arith, place-few _ (c .origin-place .ensures))
 is-other-requires :
     tie.Need-is-other-requires Inv-loop2 μ-loop2 Inv-loop μ-loop Inv-search μ-search
 is-other-requires c κs =
-    let a = c .before .before .before .before .before .before .before .before .before .before .before .args in
-    (ap (λ (k : ℕ). getD (a .b .setup .rows) k noAuthorisation) (c .before .origin-place .ensures), c .before .before .before .before .before .before .row-of .ensures)
+    let a = c .before .before .before .before .before .before .before .before .before .args in
+    (ap (λ (k : ℕ). getD (a .b .setup .rows) k noAuthorisation) (c .before .origin-place .ensures), c .before .before .before .before .before .before .before .before .before .pre .1)
 
 loop-holds : tie.Need-loop-holds Inv-loop2 μ-loop2 Inv-loop μ-loop Inv-search μ-search
 loop-holds c = (c .before .before .before .before .before .before .search .inv .0, some-none _)
@@ -94,7 +101,7 @@ periods-within-requires c κs = search needs
 
 loop2-holds : tie.Need-loop2-holds Inv-loop2 μ-loop2 Inv-loop μ-loop Inv-search μ-search
 loop2-holds c =
-    let a = c .before .before .before .before .before .before .before .before .before .before .before .before .before .before .before .before .before .args in
+    let a = c .before .before .before .before .before .before .before .before .before .before .before .before .before .before .before .args in
     let m = bookOf (a .b) (now (a .held)) (now (a .side1)) (now (a .side2)) in
     let n = notificationOf (a .n) in
     let s = c .before .before .before .before .before .before .before .before .before .before .search .s in
@@ -105,13 +112,13 @@ states-at-requires :
     tie.Need-states-at-requires Inv-loop2 μ-loop2 Inv-loop μ-loop Inv-search μ-search
 unfolding notificationOf
 states-at-requires c κs =
-    let a = c .before .before .before .before .before .before .before .before .before .before .before .before .before .before .before .before .before .before .before .args in
+    let a = c .before .before .before .before .before .before .before .before .before .before .before .before .before .before .before .before .before .args in
     let m = bookOf (a .b) (now (a .held)) (now (a .side1)) (now (a .side2)) in
     let n = notificationOf (a .n) in
     let d = c .before .before .before .before .before .loop .d in
     let l : c .before .loop2 .p < 50 = omega (arith, c .loop2-test .taken, c .before .before .periods-within .ensures, within-few (timeIn (a .b)) (n .first) (n .last) d) in
     place-inside (a .b) (now (a .side1)) (now (a .side2)) (c .before .before .before .before .before .before .before .before .before .before .before .before .search .s) d (c .before .loop2 .p)
-    (slot-inside (a .b) (now (a .held)) (now (a .side1)) (now (a .side2)) (c .before .before .before .before .before .before .before .before .before .before .before .before .search .s) (c .before .before .before .before .before .before .before .before .before .before .before .before .before .before .before .before .before .before .before .pre) (c .before .before .before .before .before .before .before .before .before .before .before .search-test .taken)) (c .before .before .before .before .loop-test .taken) l
+    (slot-inside (a .b) (now (a .held)) (now (a .side1)) (now (a .side2)) (c .before .before .before .before .before .before .before .before .before .before .before .before .search .s) (c .before .before .before .before .before .before .before .before .before .before .before .before .before .before .before .before .before .pre .0) (c .before .before .before .before .before .before .before .before .before .before .before .search-test .taken)) (c .before .before .before .before .loop-test .taken) l
 
 add-p : tie.Need-add-p Inv-loop2 μ-loop2 Inv-loop μ-loop Inv-search μ-search
 add-p c = search needs
@@ -121,7 +128,7 @@ loop2-less c = search needs
 
 loop2-again : tie.Need-loop2-again Inv-loop2 μ-loop2 Inv-loop μ-loop Inv-search μ-search
 loop2-again c =
-    let a = c .before .before .before .before .before .before .before .before .before .before .before .before .before .before .before .before .before .before .before .before .before .args in
+    let a = c .before .before .before .before .before .before .before .before .before .before .before .before .before .before .before .before .before .before .before .args in
     let m = bookOf (a .b) (now (a .held)) (now (a .side1)) (now (a .side2)) in
     let n = notificationOf (a .n) in
     let s = c .before .before .before .before .before .before .before .before .before .before .before .before .before .before .search .s in
@@ -129,7 +136,7 @@ loop2-again c =
     let p = c .before .before .before .loop2 .p in
     let l : a .b .closed - gatesBefore (timeIn (a .b) .codes) d ≤ p = omega (arith, c .before .before .before .before .before .first-open .ensures, c .before .before .before .loop2 .inv .1 .0) in
     let e : onPeriod m n s d p ≡ c .before .states-at .result =
-    open-states (a .b) (now (a .held)) (now (a .side1)) (now (a .side2)) n (c .before .before .before .before .before .before .before .before .before .before .before .before .before .before .before .before .before .before .before .writes-side1 .result) (c .before .before .before .before .before .before .before .before .before .before .before .before .before .before .before .before .before .before .writes-side2 .result) s d p (c .before .before .before .before .before .before .before .before .before .before .before .before .before .before .before .before .before .before .before .writes-side1 .ensures) (c .before .before .before .before .before .before .before .before .before .before .before .before .before .before .before .before .before .before .writes-side2 .ensures) l
+    open-states (a .b) (now (a .held)) (now (a .side1)) (now (a .side2)) n (c .before .before .before .before .before .before .before .before .before .before .before .before .before .before .before .before .before .writes-side1 .result) (c .before .before .before .before .before .before .before .before .before .before .before .before .before .before .before .before .writes-side2 .result) s d p (side-one (c .before .before .before .before .before .before .before .before .before .before .before .before .before .before .before .before)) (side-two (c .before .before .before .before .before .before .before .before .before .before .before .before .before .before .before .before)) l
     ∙ sym (c .before .states-at .ensures) in
     (c .before .before .before .loop2 .inv .0, (omega (arith, c .before .before .before .loop2 .inv .1 .0), some-keep _ _ (c .before .before .before .loop2 .inv .1 .1) (e ∙ c .if2 .left)))
 
@@ -142,7 +149,7 @@ loop-less c = search needs
 loop-again : tie.Need-loop-again Inv-loop2 μ-loop2 Inv-loop μ-loop Inv-search μ-search
 unfolding notificationOf
 loop-again c =
-    let a = c .before .before .before .before .before .before .before .before .before .before .before .before .before .before .before .before .before .before .before .args in
+    let a = c .before .before .before .before .before .before .before .before .before .before .before .before .before .before .before .before .before .args in
     let m = bookOf (a .b) (now (a .held)) (now (a .side1)) (now (a .side2)) in
     let n = notificationOf (a .n) in
     let s = c .before .before .before .before .before .before .before .before .before .before .before .before .search .s in
@@ -159,7 +166,7 @@ search-less c = search needs
 
 search-again : tie.Need-search-again Inv-loop2 μ-loop2 Inv-loop μ-loop Inv-search μ-search
 search-again c =
-    let a = c .before .before .before .before .before .before .before .before .before .before .before .before .before .args in
+    let a = c .before .before .before .before .before .before .before .before .before .before .before .args in
     let m = bookOf (a .b) (now (a .held)) (now (a .side1)) (now (a .side2)) in
     let n = notificationOf (a .n) in
     let s = c .before .before .before .before .before .before .search .s in
@@ -175,7 +182,7 @@ returns c = c .before .search .inv .0 ∙ sym (some-upto _ _ _ (c .before .searc
 returns-2 : tie.Need-returns-2 Inv-loop2 μ-loop2 Inv-loop μ-loop Inv-search μ-search
 unfolding notificationOf
 returns-2 c =
-    let a = c .before .before .before .before .before .before .before .before .before .before .before .before .before .before .before .before .before .before .before .before .before .args in
+    let a = c .before .before .before .before .before .before .before .before .before .before .before .before .before .before .before .before .before .before .before .args in
     let m = bookOf (a .b) (now (a .held)) (now (a .side1)) (now (a .side2)) in
     let n = notificationOf (a .n) in
     let s = c .before .before .before .before .before .before .before .before .before .before .before .before .before .before .search .s in
@@ -183,7 +190,7 @@ returns-2 c =
     let p = c .before .before .before .loop2 .p in
     let l : a .b .closed - gatesBefore (timeIn (a .b) .codes) d ≤ p = omega (arith, c .before .before .before .before .before .first-open .ensures, c .before .before .before .loop2 .inv .1 .0) in
     let e : onPeriod m n s d p ≡ c .before .states-at .result =
-    open-states (a .b) (now (a .held)) (now (a .side1)) (now (a .side2)) n (c .before .before .before .before .before .before .before .before .before .before .before .before .before .before .before .before .before .before .before .writes-side1 .result) (c .before .before .before .before .before .before .before .before .before .before .before .before .before .before .before .before .before .before .writes-side2 .result) s d p (c .before .before .before .before .before .before .before .before .before .before .before .before .before .before .before .before .before .before .before .writes-side1 .ensures) (c .before .before .before .before .before .before .before .before .before .before .before .before .before .before .before .before .before .before .writes-side2 .ensures) l
+    open-states (a .b) (now (a .held)) (now (a .side1)) (now (a .side2)) n (c .before .before .before .before .before .before .before .before .before .before .before .before .before .before .before .before .before .writes-side1 .result) (c .before .before .before .before .before .before .before .before .before .before .before .before .before .before .before .before .writes-side2 .result) s d p (side-one (c .before .before .before .before .before .before .before .before .before .before .before .before .before .before .before .before)) (side-two (c .before .before .before .before .before .before .before .before .before .before .before .before .before .before .before .before)) l
     ∙ sym (c .before .states-at .ensures) in
     let o = other-any (a .b) (now (a .held)) (now (a .side1)) (now (a .side2)) n (getD (now (a .held)) s 0) in
     let q : p < periodsWithin (timeIn (a .b)) (n .first) (n .last) d = rw (← c .before .before .before .before .periods-within .ensures) (c .before .before .loop2-test .taken) in
@@ -204,8 +211,6 @@ is-overlapped-spec =
     μ-search
     writes-side1-requires
     writes-side2-requires
-    cast-row-of
-    row-of-requires
     search-holds
     mul-entry
     shared-slice-read-entry

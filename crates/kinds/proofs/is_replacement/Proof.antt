@@ -47,7 +47,8 @@ returns c =
 states-from-requires : tie.Need-states-from-requires
 states-from-requires c κs =
     let a = c .before .before .before .before .before .args in
-    slot-inside (a .b) (now (a .held)) (now (a .side1)) (now (a .side2)) (c .before .slot-with .result) (c .before .before .before .before .before .pre) (c .if1 .left)
+    let (fit, row) = c .before .before .before .before .before .pre in
+    (slot-inside (a .b) (now (a .held)) (now (a .side1)) (now (a .side2)) (c .before .slot-with .result) fit (c .if1 .left), row)
 
 returns-2 : tie.Need-returns-2
 returns-2 c =

@@ -1,4 +1,5 @@
--- By the two searches.
+-- By the two searches, both with the row that is read before them.
+use borrow.Author.Needs.{needs}
 use mathlib.Core.Path.{sym, _∙_}
 use denote.Ref.{now}
 use Rattle.messages.specs.Structs.{notificationOf}
@@ -7,30 +8,36 @@ use Rattle.kinds.proofs.KindLaws.{kind-replacement, kind-additional, ki
 use Rattle.kinds.proofs.kind_in.Statement.{statement}
 use Rattle.kinds.proofs.kind_in.Tie as tie
 
+cast-row-of : tie.Need-cast-row-of
+cast-row-of c = search needs
+
+row-of-requires : tie.Need-row-of-requires
+row-of-requires c κs = search needs
+
 is-replacement-requires : tie.Need-is-replacement-requires
-is-replacement-requires c κs = c .before .pre
+is-replacement-requires c κs = (c .before .before .before .pre, c .row-of .ensures)
 
 returns : tie.Need-returns
 returns c =
-    let a = c .before .before .before .args in
+    let a = c .before .before .before .before .before .args in
     let m = bookOf (a .b) (now (a .held)) (now (a .side1)) (now (a .side2)) in
     sym (kind-replacement m (notificationOf (a .n)) (sym (c .before .is-replacement .ensures) ∙ c .if1 .taken))
 
 is-overlapped-requires : tie.Need-is-overlapped-requires
-is-overlapped-requires c κs = c .before .before .before .pre
+is-overlapped-requires c κs = (c .before .before .before .before .before .pre, c .before .before .row-of .ensures)
 
 returns-2 : tie.Need-returns-2
 returns-2 c =
-    let a = c .before .before .before .before .before .args in
+    let a = c .before .before .before .before .before .before .before .args in
     let m = bookOf (a .b) (now (a .held)) (now (a .side1)) (now (a .side2)) in
     sym (kind-additional m (notificationOf (a .n)) (sym (c .before .before .before .is-replacement .ensures) ∙ c .before .before .if1 .left) (sym (c .before .is-overlapped .ensures) ∙ c .if2 .taken))
 
 returns-3 : tie.Need-returns-3
 returns-3 c =
-    let a = c .before .before .before .before .before .args in
+    let a = c .before .before .before .before .before .before .before .args in
     let m = bookOf (a .b) (now (a .held)) (now (a .side1)) (now (a .side2)) in
     sym (kind-initial m (notificationOf (a .n)) (sym (c .before .before .before .is-replacement .ensures) ∙ c .before .before .if1 .left) (sym (c .before .is-overlapped .ensures) ∙ c .if2 .left))
 
 pub kind-in-spec : {M : Type 1} → statement M
 kind-in-spec =
-    tie.close (tie.spec is-replacement-requires returns is-overlapped-requires returns-2 returns-3)
+    tie.close (tie.spec cast-row-of row-of-requires is-replacement-requires returns is-overlapped-requires returns-2 returns-3)

@@ -8,11 +8,13 @@ use native.Mathlib.Omega.{arith}
 use denote.Ref.{now}
 use Rattle.words.specs.Below.{someBelow}
 use Rattle.laws.proofs.Below.{some-none, some-hit}
+use Rattle.meaning.specs.Ledgers.{one, two}
+use Rattle.meaning.specs.Messages.{writes}
 use Rattle.meaning.specs.Notifications.{statesAt}
 use Rattle.messages.specs.Structs.{notificationOf}
-use Rattle.book.specs.Structs.{bookOf, timeIn}
+use Rattle.book.specs.Structs.{bookOf, timeIn, rowsIn}
 use Rattle.kinds.specs.Kinds.{periodsFrom, fromFirst}
-use Rattle.kinds.proofs.KindLaws.{some-keep, some-upto, from-miss, from-hit, place-states, from-few, place-inside}
+use Rattle.kinds.proofs.KindLaws.{some-keep, some-upto, from-miss, from-hit, place-states, from-few, place-inside, row-writes-one, row-writes-two}
 use Rattle.kinds.proofs.states_from.Statement.{statement}
 use Rattle.kinds.proofs.states_from.Tie as tie
 
@@ -35,6 +37,17 @@ writes-side1-requires c κs = search needs
 writes-side2-requires : tie.Need-writes-side2-requires Inv-loop μ-loop Inv-search μ-search
 writes-side2-requires c κs = search needs
 
+module _ (c : tie.After-writes-side2 Inv-loop μ-loop Inv-search μ-search) where
+  side-one : c .before .writes-side1 .result ≡ writes (rowsIn (c .before .before .args .b .setup)) (notificationOf (c .before .before .args .n)) one
+  side-one =
+      let start = c .before .before in
+      c .before .writes-side1 .ensures ∙ row-writes-one (start .args .b) (start .args .n) (start .args .mine) (start .pre .1)
+
+  side-two : c .writes-side2 .result ≡ writes (rowsIn (c .before .before .args .b .setup)) (notificationOf (c .before .before .args .n)) two
+  side-two =
+      let start = c .before .before in
+      c .writes-side2 .ensures ∙ row-writes-two (start .args .b) (start .args .n) (start .args .mine) (start .pre .1)
+
 search-holds : tie.Need-search-holds Inv-loop μ-loop Inv-search μ-search
 search-holds c = (refl, some-none _)
 
@@ -52,7 +65,7 @@ states-at-requires c κs =
     let n = notificationOf (a .n) in
     let d = c .before .before .before .before .search .d in
     let l : c .before .loop .p < 50 = omega (arith, c .loop-test .taken, c .before .before .periods-from .ensures, from-few (timeIn (a .b)) (n .first) d) in
-    place-inside (a .b) (now (a .side1)) (now (a .side2)) (a .s) d (c .before .loop .p) (c .before .before .before .before .before .before .before .pre) (c .before .before .before .search-test .taken) l
+    place-inside (a .b) (now (a .side1)) (now (a .side2)) (a .s) d (c .before .loop .p) (c .before .before .before .before .before .before .before .pre .0) (c .before .before .before .search-test .taken) l
 
 add-p : tie.Need-add-p Inv-loop μ-loop Inv-search μ-search
 add-p c = search needs
@@ -68,7 +81,7 @@ loop-again c =
     let d = c .before .before .before .before .before .before .search .d in
     let p = c .before .before .before .loop .p in
     let e : statesAt m n (a .s) d (suc p) ≡ c .before .states-at .result =
-    place-states (a .b) [] (now (a .side1)) (now (a .side2)) n (c .before .before .before .before .before .before .before .before .writes-side1 .result) (c .before .before .before .before .before .before .before .writes-side2 .result) (a .s) d p (c .before .before .before .before .before .before .before .before .writes-side1 .ensures) (c .before .before .before .before .before .before .before .writes-side2 .ensures)
+    place-states (a .b) [] (now (a .side1)) (now (a .side2)) n (c .before .before .before .before .before .before .before .before .writes-side1 .result) (c .before .before .before .before .before .before .before .writes-side2 .result) (a .s) d p (side-one (c .before .before .before .before .before .before .before)) (side-two (c .before .before .before .before .before .before .before))
     ∙ sym (c .before .states-at .ensures) in
     (c .before .before .before .loop .inv .0, some-keep _ _ (c .before .before .before .loop .inv .1) (e ∙ c .if1 .left))
 
@@ -101,7 +114,7 @@ returns-2 c =
     let d = c .before .before .before .before .before .before .search .d in
     let p = c .before .before .before .loop .p in
     let e : statesAt m n (a .s) d (suc p) ≡ c .before .states-at .result =
-    place-states (a .b) [] (now (a .side1)) (now (a .side2)) n (c .before .before .before .before .before .before .before .before .writes-side1 .result) (c .before .before .before .before .before .before .before .writes-side2 .result) (a .s) d p (c .before .before .before .before .before .before .before .before .writes-side1 .ensures) (c .before .before .before .before .before .before .before .writes-side2 .ensures)
+    place-states (a .b) [] (now (a .side1)) (now (a .side2)) n (c .before .before .before .before .before .before .before .before .writes-side1 .result) (c .before .before .before .before .before .before .before .writes-side2 .result) (a .s) d p (side-one (c .before .before .before .before .before .before .before)) (side-two (c .before .before .before .before .before .before .before))
     ∙ sym (c .before .states-at .ensures) in
     let q : p < periodsFrom (timeIn (a .b)) (n .first) d = rw (← c .before .before .before .before .periods-from .ensures) (c .before .before .loop-test .taken) in
     sym (some-hit (a .b .setup .days) (fromFirst m n (a .s)) d (c .before .before .before .before .before .search-test .taken) (from-hit m n (a .s) d p q (e ∙ c .if1 .taken)))

@@ -16,6 +16,7 @@ use Rattle.book.specs.Structs.{bookOf}
 use Rattle.calls.specs.declared.Notified.{Notified}
 use Rattle.book.proofs.StateLaws.{clock-time}
 use Rattle.calls.proofs.CallLaws.{call-refused, sound-slots}
+use Rattle.kinds.proofs.KindLaws.{row-writes-one, row-writes-two}
 use Rattle.effects.proofs.EffectLaws.{accepted-slot}
 use Rattle.calls.proofs.NotifyLaws.{notificationCall, notification-answer, notified-done, notified-number, held-notified, side-notified}
 use Rattle.calls.proofs.sound_book.do_notification.Statement.{statement}
@@ -88,6 +89,12 @@ cast-slot c = search needs
 clock-of-requires : tie.Need-clock-of-requires
 clock-of-requires c κs = search needs
 
+cast-row-of : tie.Need-cast-row-of
+cast-row-of c = search needs
+
+row-of-requires : tie.Need-row-of-requires
+row-of-requires c κs = search needs
+
 entry-of-requires : tie.Need-entry-of-requires
 entry-of-requires c κs = search needs
 
@@ -95,13 +102,13 @@ mul-held : tie.Need-mul-held
 mul-held c = search needs
 
 slice-write-held : tie.Need-slice-write-held
-slice-write-held c = slot-inside (c .before .before .before)
+slice-write-held c = slot-inside (c .before .before .before .before .before)
 
 writes-side1-requires : tie.Need-writes-side1-requires
 writes-side1-requires c κs = search needs
 
 cast-write-side : tie.Need-cast-write-side
-cast-write-side c = omega (arith, slot-few (c .before .before .before .before .before))
+cast-write-side c = omega (arith, slot-few (c .before .before .before .before .before .before .before))
 
 write-side-requires : tie.Need-write-side-requires
 write-side-requires c κs = search needs
@@ -110,7 +117,7 @@ writes-side2-requires : tie.Need-writes-side2-requires
 writes-side2-requires c κs = search needs
 
 cast-write-side-2 : tie.Need-cast-write-side-2
-cast-write-side-2 c = omega (arith, slot-few (c .before .before .before .before .before .before .before .before .before))
+cast-write-side-2 c = omega (arith, slot-few (c .before .before .before .before .before .before .before .before .before .before .before))
 
 write-side-requires-2 : tie.Need-write-side-requires-2
 write-side-requires-2 c κs = search needs
@@ -129,14 +136,16 @@ unfolding notificationOf
 returns-2 c =
     let w1 = c .before .before .before .before .before .before in
     let written = w1 .before .before in
-    let clock = written .before in
+    let read = written .before in
+    let clock = read .before .before in
     let p = clock .before .before in
     let s = begun p in
+    let row = read .row-of .ensures in
     let slotted = slot p in (
       answered p .judge-notification .ensures,
       held-notified (whole s) (note s) (done p) _ _ slotted (written .entry-of .ensures),
-      c .before .before .before .before .before .write-side .ensures ∙ side-notified (whole s) (note s) (done p) one _ _ _ (w1 .writes-side1 .ensures) (clock-time (s .args .b) (clock .clock-of .ensures)) slotted,
-      c .before .write-side2 .ensures ∙ side-notified (whole s) (note s) (done p) two _ _ _ (c .before .before .writes-side2 .ensures) (clock-time (s .args .b) (clock .clock-of .ensures)) slotted,
+      c .before .before .before .before .before .write-side .ensures ∙ side-notified (whole s) (note s) (done p) one _ _ _ (w1 .writes-side1 .ensures ∙ row-writes-one (s .args .b) (s .args .n) _ row) (clock-time (s .args .b) (clock .clock-of .ensures)) slotted,
+      c .before .write-side2 .ensures ∙ side-notified (whole s) (note s) (done p) two _ _ _ (c .before .before .writes-side2 .ensures ∙ row-writes-two (s .args .b) (s .args .n) _ row) (clock-time (s .args .b) (clock .clock-of .ensures)) slotted,
     )
 
 pub do-notification-spec : {M : Type 1} → statement M
@@ -150,6 +159,8 @@ do-notification-spec =
     returns
     cast-slot
     clock-of-requires
+    cast-row-of
+    row-of-requires
     entry-of-requires
     mul-held
     slice-write-held
