@@ -2,17 +2,18 @@
 use book::Book;
 use book::numbers;
 use book::state;
-ghost use mathlib.Core.Bool.{not};
+ghost use mathlib.Core.Bool.{not, _||_};
 ghost use mathlib.Core.List.{[]};
 ghost use mathlib.Core.Path.{_≡_};
 ghost use Prim.Native.Nat.{min};
-ghost use Rattle.words.specs.Tests.{within};
+ghost use Rattle.words.specs.Tests.{_=?_, within};
 ghost use Rattle.words.specs.Rules.{answer};
 ghost use Rattle.meaning.specs.Time.{dayOf, everyGateClosed, currentDay};
-ghost use Rattle.meaning.specs.Authorisations.{inForce};
-ghost use Rattle.meaning.specs.Notifications.{under, keyOrAgentWrong, originatorRight, highestPeriod, periodWrong, volumeWrong};
+ghost use Rattle.meaning.specs.Authorisations.{rowAt, inForce};
+ghost use Rattle.meaning.specs.Notifications.{originatorRight, highestPeriod, periodWrong, volumeWrong};
 ghost use Rattle.messages.specs.Structs.{notificationOf};
-ghost use Rattle.book.specs.Structs.{timeIn, bookOf};
+ghost use Rattle.setups.specs.Structs.{rowOf};
+ghost use Rattle.book.specs.Structs.{timeIn, rowsIn, bookOf};
 ghost use Rattle.checks.specs.Checks.{checkRules, lateRules};
 
 const MOST_ENTRIES: u8 = 50;
@@ -21,33 +22,37 @@ const PLAIN_DAY: u8 = 48;
 
 const LAST_PLACE: u16 = 255;
 
-// "key wrong, or agent is neither of its two"
-fn key_or_agent_wrong(b: Book, n: messages::Notification) -> bool
-    ensures { λ r. ⌜ r ≡ keyOrAgentWrong (bookOf b [] [] []) (notificationOf n) ⌝ }
+// "key wrong, or agent is neither of its two". The row of its authorisation is handed over, here and below, since reading it out of a book copies all of
+// them.
+fn key_or_agent_wrong(row: setups::Authorisation, key: u16, agent: u8) -> bool
+    ensures { λ r. ⌜ r ≡ not (key =? row .key) || not (agent =? row .agent1 || agent =? row .agent2) ⌝ }
 {
-    let row = state::row_of(b, n.authorisation as u32);
-    (n.key != row.key) | !((n.agent == row.agent1) | (n.agent == row.agent2))
+    (key != row.key) | !((agent == row.agent1) | (agent == row.agent2))
 }
 
 // Its authorisation is in force today.
-fn in_force(b: Book, n: messages::Notification, today: u32) -> bool
-    ensures { λ r. ⌜ r ≡ inForce (under (bookOf b [] [] []) (notificationOf n)) today ⌝ }
+fn in_force(row: setups::Authorisation, today: u32) -> bool
+    ensures { λ r. ⌜ r ≡ inForce (rowOf row) today ⌝ }
 {
-    let row = state::row_of(b, n.authorisation as u32);
     (row.first as u32 <= today) & (today <= row.last as u32)
 }
 
 // The originator is neither its authorisation nor an expired one of the same accounts.
-fn originator_wrong(b: Book, n: messages::Notification, today: u32) -> bool
-    requires { ⌜ today ≡ currentDay (timeIn b) ⌝ }
+fn originator_wrong(
+    b: Book,
+    n: messages::Notification,
+    row: setups::Authorisation,
+    today: u32,
+) -> bool
+    requires { ⌜ (today ≡ currentDay (timeIn b)) × (rowOf row ≡ rowAt (rowsIn (b .setup)) (n .authorisation)) ⌝ }
     ensures { λ r. ⌜ r ≡ not (originatorRight (bookOf b [] [] []) (notificationOf n)) ⌝ }
 {
-    let s = b.setup;
-    let row = state::row_of(b, n.authorisation as u32);
+    if n.originator == n.authorisation {
+        return false;
+    }
     let o = state::row_of(b, n.originator as u32);
     let same = (o.account1 == row.account1) & (o.account2 == row.account2);
-    let old = (n.originator < s.authorisations) & ((o.last as u32) < today) & same;
-    !((n.originator == n.authorisation) | old)
+    !((n.originator < b.setup.authorisations) & ((o.last as u32) < today) & same)
 }
 
 // The place of a day in the book; at most 255, which is past every book's last.
@@ -142,14 +147,15 @@ pub fn checks_refusal(b: Book, n: messages::Notification) -> u8
     if s.authorisations <= n.authorisation {
         return numbers::NO_AUTHORISATION;
     }
-    if key_or_agent_wrong(b, n) {
+    let row = state::row_of(b, n.authorisation as u32);
+    if key_or_agent_wrong(row, n.key, n.agent) {
         return numbers::KEY_OR_AGENT_WRONG;
     }
     let today = clock::current_day(time);
-    if !in_force(b, n, today) {
+    if !in_force(row, today) {
         return numbers::NOT_IN_FORCE;
     }
-    if originator_wrong(b, n, today) {
+    if originator_wrong(b, n, row, today) {
         return numbers::ORIGINATOR_WRONG;
     }
     if n.last < n.first {

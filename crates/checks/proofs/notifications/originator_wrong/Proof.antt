@@ -1,5 +1,6 @@
--- The originator is the identifier's own, and the tests are as they stand.
+-- The originator is the identifier's own. Where it is the authorisation itself it is right; of another one the tests are as they stand.
 use borrow.Author.Needs.{needs}
+use borrow.Author.Tests.{eq-eqb, ne-eqb}
 use Rattle.meaning.specs.Notifications.{originatorRight}
 use Rattle.meaning.proofs.MessageValues.{originator-again}
 use Rattle.setups.proofs.SetupHeld.{rows-own}
@@ -8,28 +9,37 @@ use Rattle.checks.proofs.CheckLaws.{reference-fits}
 use Rattle.checks.proofs.notifications.originator_wrong.Statement.{statement}
 use Rattle.checks.proofs.notifications.originator_wrong.Tie as tie
 
+returns : tie.Need-returns
+unfolding originatorRight notificationOf
+returns c =
+    let a = c .before .before in
+    let n = a .args .n in
+    rw (originator-again (n .originator) (n .reference) (reference-fits n (a .good .1 .0)), eq-eqb (n .originator) (n .authorisation) (c .if1 .taken))
+
 cast-row-of : tie.Need-cast-row-of
 cast-row-of c = search needs
 
 row-of-requires : tie.Need-row-of-requires
 row-of-requires c κs = search needs
 
-cast-row-of-2 : tie.Need-cast-row-of-2
-cast-row-of-2 c = search needs
+cast-result : tie.Need-cast-result
+cast-result c = search needs
 
-row-of-requires-2 : tie.Need-row-of-requires-2
-row-of-requires-2 c κs = search needs
-
-cast-old : tie.Need-cast-old
-cast-old c = search needs
-
-returns : tie.Need-returns
+returns-2 : tie.Need-returns-2
 unfolding originatorRight notificationOf
-returns c =
-    let p = c .before .before .before .before .before .before .before .before in
-    let a = p .before .before .before .before .before in
+returns-2 c =
+    let p = c .before .before .before .before .before .before .before in
+    let other = p .before .before in
+    let a = other .before .before in
     let n = a .args .n in
-    rw (originator-again (n .originator) (n .reference) (reference-fits n (a .good .1 .0)), rows-own, ← p .before .before .row-of .ensures, ← p .row-of2 .ensures, ← a .pre)
+    rw (
+      originator-again (n .originator) (n .reference) (reference-fits n (a .good .1 .0)),
+      ne-eqb (n .originator) (n .authorisation) (other .if1 .left),
+      rows-own,
+      ← p .row-of .ensures,
+      ← a .pre .1,
+      ← a .pre .0,
+    )
 
 pub originator-wrong-spec : {M : Type 1} → statement M
-originator-wrong-spec = tie.close (tie.spec cast-row-of row-of-requires cast-row-of-2 row-of-requires-2 cast-old returns)
+originator-wrong-spec = tie.close (tie.spec returns cast-row-of row-of-requires cast-result returns-2)
