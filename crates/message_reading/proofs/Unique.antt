@@ -13,3 +13,6 @@ unique-read-message bytes r r′ = one-outcome
 
 pub unique-reading-refusal : (bytes : List ℕ) (r r′ : ℕ) → r ≡ answer (readingRules bytes) → r′ ≡ answer (readingRules bytes) → r ≡ r′
 unique-reading-refusal bytes r r′ = one-outcome
+
+pub unique-message-length : (bytes : List ℕ) (r r′ : ℕ) → r ≡ readMessage bytes .length → r′ ≡ readMessage bytes .length → r ≡ r′
+unique-message-length bytes r r′ = one-outcome

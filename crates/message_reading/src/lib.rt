@@ -198,6 +198,17 @@ fn message_in(bytes: &[u8]) -> Message
     }
 }
 
+// The bytes that the message at the front takes, 0 with a refusal. Its entries are not read.
+pub fn message_length(bytes: &[u8]) -> usize
+    ensures { λ r. ⌜ r ≡ readMessage (now (bytes .entry)) .length ⌝ }
+{
+    let answer = reading_refusal(bytes);
+    if answer != 0 {
+        return 0;
+    }
+    layouts::bytes_for(kind_in(bytes), count_in(bytes))
+}
+
 // The message at the front of the bytes: its answer, its length and itself. Bytes after it belong to the next.
 pub fn read_message(bytes: &[u8]) -> MessageRead
     ensures { λ r. ⌜ r ≡ messageRead (readMessage (now (bytes .entry))) ⌝ }

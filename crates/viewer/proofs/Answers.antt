@@ -1,4 +1,4 @@
--- What reading gives, part by part: the answer, the length and the message of a `MessageRead`; and a mark as its numbers.
+-- The message of a `MessageRead`; and a mark as its numbers.
 use mathlib.Core.Path.{_≡_, refl, ap, _∙_}
 use Prim.Native.Nat.{ℕ}
 use lib.Ieee.{Float}
@@ -11,14 +11,6 @@ use Rattle.viewer.specs.Numbers.{markNumbers}
 use Rattle.viewer.specs.declared.MarkNumbers.{MarkNumbers}
 
 module _ (r : Reading Packed) where
-  pub answer-read : messageRead r .answer ≡ r .answer
-  unfolding messageRead
-  answer-read = refl
-
-  pub length-read : messageRead r .length ≡ r .length
-  unfolding messageRead
-  length-read = refl
-
   pub message-read : messageRead r .message ≡ messageFor (r .read)
   unfolding messageRead
   message-read = refl

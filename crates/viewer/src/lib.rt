@@ -32,8 +32,7 @@ pub extern "C" fn ghendufika_message_refusal(bytes: &[u8]) -> u8
 pub extern "C" fn ghendufika_message_length(bytes: &[u8]) -> usize
     ensures { λ r. ⌜ r ≡ readMessage (now (bytes .entry)) .length ⌝ }
 {
-    let read = message_reading::read_message(bytes);
-    read.length
+    message_reading::message_length(bytes)
 }
 
 // One field of the message, 0 with a refusal.
