@@ -101,8 +101,8 @@ fn clear(out: &mut [i64], periods: usize)
     }
 }
 
-// Adds what a slot counts in each period of the day, the first of which has this place in the tables. No branch within the loop, so that it runs on
-// vectors; most slots are of other accounts and are passed over.
+// Adds what a slot counts in each period of the day, the first of which has this place in the tables. A slot of other accounts counts nothing and is
+// passed over.
 fn add_slot(
     origin: setups::Authorisation,
     account: u8,
