@@ -1,6 +1,6 @@
 -- After i turns the front holds the first i fields, and behind it stands what was there.
 use borrow.Author.Needs.{needs}
-use mathlib.Core.Path.{_≡_, sym, _∙_}
+use mathlib.Core.Path.{_≡_, sym, ap₂, _∙_}
 use mathlib.Core.List.{map, _++_}
 use Prim.Native.Nat.{_+_, _-_, _*_, _≤_, _<_}
 use native.Mathlib.Omega.{arith}
@@ -59,7 +59,7 @@ loop-again c =
     let inside : l .i < length us = omega (arith, length-map ws narrow) in
     let w : c .before .narrowed .result ≡ getD us (l .i) 0 = c .before .narrowed .ensures ∙ sym (List·getD-map narrow ws (l .i) 0) in
     let value : c .read-bits .result ≡ fieldAt (now (a .src)) (a .at + total (take (l .i) us)) (getD us (l .i) 0) =
-    c .read-bits .ensures ∙ rw (w, l .inv .2) in (
+    c .read-bits .ensures ∙ ap₂ (fieldAt (now (a .src))) (l .inv .2) w in (
       omega arith,
       l .inv .1,
       omega (arith, total-more us (l .i) inside, w),

@@ -1,12 +1,12 @@
 -- After i turns the first i fields are written.
 use borrow.Author.Needs.{needs}
-use mathlib.Core.Path.{_≡_, sym, ap, _∙_}
-use mathlib.Core.List.{map}
-use Prim.Native.Nat.{_+_, _-_, _*_, _≤_, _<_}
+use mathlib.Core.Path.{_≡_, sym, ap, ap₂, _∙_}
+use mathlib.Core.List.{List, map}
+use Prim.Native.Nat.{ℕ, _+_, _-_, _*_, _≤_, _<_}
 use native.Mathlib.Omega.{arith}
 use denote.Ref.{now}
 use lib.ListN.{length, take, getD, length-map, List·getD-map}
-use Rattle.words.specs.Fields.{total, writeAll}
+use Rattle.words.specs.Fields.{total, setField, writeAll}
 use Rattle.laws.proofs.FieldLoops.{total-more, write-fields-more}
 use Rattle.laws.proofs.Layouts.{write-length}
 use Rattle.fields.specs.Narrow.{narrow, fewest, writeFrom}
@@ -59,13 +59,17 @@ loop-again c =
     let ws = now (a .widths) in
     let us = map narrow ws in
     let inside : l .i < length us = omega (arith, length-map ws narrow) in
-    let w : narrowed .result ≡ getD us (l .i) 0 = narrowed .ensures ∙ sym (List·getD-map narrow ws (l .i) 0) in (
+    let w : narrowed .result ≡ getD us (l .i) 0 = narrowed .ensures ∙ sym (List·getD-map narrow ws (l .i) 0) in
+    let value = getD (now (a .values)) (l .i) 0 in
+    let before = writeAll (now (a .dst)) (a .at) (take (l .i) us) (take (l .i) (now (a .values))) in (
       omega arith,
       l .inv .1,
       omega (arith, total-more us (l .i) inside, w),
       omega (arith, narrowed .ensures),
       c .before .before .write-bits .ensures
-          ∙ rw (l .inv .4, w, l .inv .2) (sym (write-fields-more us (l .i) inside (now (a .dst)) (a .at) (now (a .values)) (omega arith))),
+          ∙ ap (λ (s : List ℕ). setField s (l .p) (narrowed .result) value) (l .inv .4)
+          ∙ ap₂ (λ (p width : ℕ). setField before p width value) (l .inv .2) w
+          ∙ sym (write-fields-more us (l .i) inside (now (a .dst)) (a .at) (now (a .values)) (omega arith)),
     )
 
 same-length : tie.Need-same-length Inv-loop μ-loop
