@@ -6,13 +6,12 @@ use mathlib.Core.Path.{_≡_, refl, sym, ap, _∙_}
 use Prim.Native.Nat.{ℕ, suc, _+_, _≤_, _<_}
 use native.Mathlib.Omega.{arith}
 use lib.Dec.{ltb}
-use lib.ListN.{length, getD, set, length-set}
-use lib.Seq.{getD-set-same, getD-set-other}
+use lib.ListN.{length, set}
 use borrow.Author.Tests.{ne-eqb, lt-ltb, le-ltb, ltb-false}
 use Rattle.words.specs.Rules.{Rule, _when_else_, done, answer}
-use Rattle.laws.proofs.Cases.{by-lt, by-eq, or-left, or-right}
+use Rattle.laws.proofs.Cases.{by-lt, or-left, or-right}
 use Rattle.laws.proofs.Rules.{earlier-answers, later-answers}
-use Rattle.laws.proofs.Lists.{length-mapAt, getD-mapAt, mapAt-is, mapAt-same}
+use Rattle.laws.proofs.Lists.{mapAt-same, upto-none, upto-more}
 use Rattle.meaning.specs.Time.{periodsAt, dayOf, hasDay}
 use Rattle.meaning.specs.Ledgers.{contracts}
 use Rattle.meaning.specs.Books.{Book}
@@ -24,33 +23,14 @@ use Rattle.shown.specs.declared.Bar.{Bar}
 -- ---- the front of a buffer
 
 module _ {A : Type 0} (f : ℕ → A) (buffer : List A) (d : A) where
-  pub length-front : (n : ℕ) → length (overFront n f buffer) ≡ length buffer
-  unfolding overFront
-  length-front n = length-mapAt (λ (p : ℕ) (old : A). cond (ltb p n) (f p) old) buffer
-
-  front-at : (n p : ℕ) → p < length buffer → getD (overFront n f buffer) p d ≡ cond (ltb p n) (f p) (getD buffer p d)
-  unfolding overFront
-  front-at n p h = getD-mapAt (λ (q : ℕ) (old : A). cond (ltb q n) (f q) old) buffer p d h
-
   pub front-none : buffer ≡ overFront 0 f buffer
   unfolding overFront
-  front-none = mapAt-is (λ (p : ℕ) (old : A). cond (ltb p 0) (f p) old) buffer buffer d refl (λ p h. rw (le-ltb p 0 (omega arith)))
+  front-none = upto-none (λ (p : ℕ) (old : A). f p) buffer d
 
   -- a loop's next turn
   pub front-more : (n : ℕ) → n < length buffer → set (overFront n f buffer) n (f n) ≡ overFront (n + 1) f buffer
   unfolding overFront
-  front-more n l =
-      mapAt-is (λ (p : ℕ) (old : A). cond (ltb p (n + 1)) (f p) old) buffer (set (overFront n f buffer) n (f n)) d
-      (length-set (overFront n f buffer) n (f n) ∙ length-front n)
-      (λ p h.
-      by-eq p n
-      (λ e. rw (e, lt-ltb n (n + 1) (omega arith)) (getD-set-same (overFront n f buffer) n (f n) d (omega (arith, length-front n))))
-      (λ e.
-      getD-set-other (overFront n f buffer) n p (f n) d e
-      ∙ front-at n p h
-      ∙ by-lt p n
-      (λ w. rw (lt-ltb p n w, lt-ltb p (n + 1) (omega arith)))
-      (λ w. rw (le-ltb p n w, le-ltb p (n + 1) (omega arith)))))
+  front-more = upto-more (λ (p : ℕ) (old : A). f p) buffer d
 
 pub front-same : {A : Type 0} (n : ℕ) (f g : ℕ → A) (buffer : List A) (d : A) → ((p : ℕ) → p < n → f p ≡ g p) → overFront n f buffer ≡ overFront n g buffer
 unfolding overFront
