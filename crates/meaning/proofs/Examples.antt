@@ -4,19 +4,19 @@ use mathlib.Core.Path.{_≡_, refl}
 use mathlib.Core.Bool.{Bool, true, _&&_}
 use mathlib.Core.List.{List, [], _∷_}
 use Prim.Native.Nat.{ℕ, suc}
-use lib.IntN.{ℤ, pos, negℤ}
+use lib.IntN.{pos, negℤ}
 use Rattle.words.specs.Tests.{_=?_, sameℤ}
 use Rattle.words.specs.Below.{everyBelow}
 use Rattle.meaning.specs.Time.{evergreen}
 use Rattle.meaning.specs.Ledgers.{contracts}
-use Rattle.meaning.specs.Messages.{Entry, notification}
+use Rattle.meaning.specs.Messages.{Entry}
 use Rattle.meaning.specs.Books.{Book, openedBook}
-use Rattle.meaning.specs.Calls.{Call, gate, message, refusal}
+use Rattle.meaning.specs.Calls.{Call, gate, refusal}
 use Rattle.meaning.specs.History.{after}
 use Rattle.meaning.specs.Totals.{sumOf, sold, bought}
 use Rattle.meaning.specs.Bars.{seenBar}
 use Rattle.meaning.proofs.Opened as Opened
-use Rattle.meaning.proofs.Stories.{_/₁_, has, oneSided, agreed, alike}
+use Rattle.meaning.proofs.Stories.{_/₁_, entry, send, has, oneSided, agreed, alike}
 
 -- ---- the sheet program: one day 100 of 48, accounts 0 and 1, one authorisation, 16 slots
 
@@ -31,12 +31,8 @@ sheet =
     })
     16
 
-abbrev entry : ℕ → ℤ → Entry contracts
-entry p v = record { period = p; volume = v }
-
 abbrev say : ℕ → ℕ → List (Entry contracts) → Call contracts
-say agent key es =
-    message (notification (record { authorisation = 0; agent = agent; key = key; identifier = 0 /₁ 1; first = 100; last = 100; entries = es }))
+say agent key es = send 0 agent key (0 /₁ 1) 100 100 es
 
 -- "agent 7 gives 5000 for period 1; agent 9 the same; agent 7 with key 501; a gate; agent 9 replaces with 6000 for period 1 and 10 for 2"
 abbrev five : List (Call contracts)

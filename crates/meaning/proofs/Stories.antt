@@ -3,15 +3,18 @@ use mathlib.Core.Bool.{Bool, true, false, not, _&&_}
 use mathlib.Core.List.{List, [], _∷_}
 use Prim.Native.Nat.{ℕ, _+_, _*_}
 use lib.IntN.{ℤ}
+use lib.ListN.{length}
 use Rattle.words.specs.Tests.{_=?_, sameℤ}
 use Rattle.words.specs.Lists.{every}
+use Rattle.words.specs.Rules.{answer}
 use Rattle.meaning.specs.Ledgers.{contracts, stands, identifierOf}
-use Rattle.meaning.specs.Messages.{notification, nullification}
+use Rattle.meaning.specs.Messages.{Entry, Notification, notification, nullification}
 use Rattle.meaning.specs.Books.{Book}
 use Rattle.meaning.specs.Notifications.{notified}
 use Rattle.meaning.specs.Calls.{Call, gate, message, refusal}
-use Rattle.meaning.specs.Totals.{total}
+use Rattle.meaning.specs.Totals.{totalRules, total}
 use Rattle.meaning.specs.Bars.{Bar, Blank, OneSide, Agreed, Disagreed}
+use Rattle.meaning.specs.Rows.{rowRules, row}
 
 -- ---- calls
 
@@ -19,18 +22,20 @@ infix 90 _/₁_
 abbrev pub _/₁_ : ℕ → ℕ → ℕ
 o /₁ r = identifierOf o r
 
--- under an authorisation, with its key, by an agent: an identifier, its first and last day, and one period with its volume
+abbrev pub entry : ℕ → ℤ → Entry contracts
+entry period volume = record { period = period; volume = volume }
+
+-- under an authorisation, by an agent, with a key: an identifier, its first and last day, and its entries
+abbrev pub letter : ℕ → ℕ → ℕ → ℕ → ℕ → ℕ → List (Entry contracts) → Notification contracts
+letter number agent key i first last es =
+    record { authorisation = number; agent = agent; key = key; identifier = i; first = first; last = last; entries = es }
+
+abbrev pub send : ℕ → ℕ → ℕ → ℕ → ℕ → ℕ → List (Entry contracts) → Call contracts
+send number agent key i first last es = message (notification (letter number agent key i first last es))
+
+-- with the authorisation's own key, and one period with its volume
 abbrev pub tell : ℕ → ℕ → ℕ → ℕ → ℕ → ℕ → ℤ → Call contracts
-tell number agent i first last period volume =
-    message (notification (record {
-      authorisation = number;
-      agent = agent;
-      key = 500 + 100 * number;
-      identifier = i;
-      first = first;
-      last = last;
-      entries = record { period = period; volume = volume } ∷ [];
-    }))
+tell number agent i first last period volume = send number agent (500 + 100 * number) i first last (entry period volume ∷ [])
 
 abbrev pub cancel : ℕ → ℕ → ℕ → Call contracts
 cancel x y first = message (nullification (record { account = x; other = y; first = first }))
@@ -48,9 +53,9 @@ initial b gate = false
 initial b (message (notification n)) = notified b n .kind =? 1
 initial b (message (nullification x)) = false
 
--- the total of an account in a period of a day
+-- the total of an account in a period of a day, with the answer 0: a refusal would give the total 0 too
 abbrev pub has : Book contracts → ℕ → ℕ → ℕ → ℤ → Bool
-has b account D period v = sameℤ (total b account D period) v
+has b account D period v = answer (totalRules b account D period) =? 0 && sameℤ (total b account D period) v
 
 abbrev pub disagreed : Bar ℤ → ℤ → ℤ → Bool
 disagreed Blank v w = false
@@ -78,3 +83,11 @@ alike f (x ∷ xs) (y ∷ ys) = f x y && alike f xs ys
 
 abbrev pub nothingIn : List ℤ → Bool
 nothingIn vs = every (λ v. not (stands contracts v)) vs
+
+-- the row of an identifier on a day and a side, with the answer 0; and one so long in which nothing stands: a refusal's row is empty
+abbrev pub shows : Book contracts → ℕ → ℕ → ℕ → List ℤ → Bool
+shows b i D side vs = answer (rowRules b i D side) =? 0 && alike sameℤ (row b i D side) vs
+
+abbrev pub empty : Book contracts → ℕ → ℕ → ℕ → ℕ → Bool
+empty b i D side periods =
+    answer (rowRules b i D side) =? 0 && length (row b i D side) =? periods && nothingIn (row b i D side)

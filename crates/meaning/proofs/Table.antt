@@ -5,7 +5,7 @@ use mathlib.Core.List.{[], _∷_}
 use Prim.Native.Nat.{ℕ, _+_}
 use lib.IntN.{ℤ, pos, negℤ}
 use lib.ListN.{replicate}
-use Rattle.words.specs.Tests.{_=?_, sameℤ}
+use Rattle.words.specs.Tests.{_=?_}
 use Rattle.words.specs.Below.{everyBelow}
 use Rattle.words.specs.Lists.{every}
 use Rattle.meaning.specs.Time.{evergreen}
@@ -14,11 +14,10 @@ use Rattle.meaning.specs.Books.{Setup, Book, openedBook}
 use Rattle.meaning.specs.Calls.{Call, gate}
 use Rattle.meaning.specs.History.{after}
 use Rattle.meaning.specs.Bars.{seenBar}
-use Rattle.meaning.specs.Rows.{row}
 use Rattle.meaning.specs.PackedMessages.{writeMessage}
 use Rattle.meaning.specs.PackedMessages as Packed
 use Rattle.meaning.proofs.Opened as Opened
-use Rattle.meaning.proofs.Stories.{_/₁_, tell, cancel, answers, accepts, initial, has, disagreed, alike, nothingIn}
+use Rattle.meaning.proofs.Stories.{_/₁_, tell, cancel, answers, accepts, initial, has, disagreed, alike, nothingIn, shows, empty}
 
 -- ---- the book of the table, with four slots
 
@@ -80,7 +79,7 @@ abbrev P1 : Bool
 P1 =
     accepts start (seven (pos 5000))
     && initial start (seven (pos 5000))
-    && has afterP1 0 100 1 (pos 0)
+    && everyBelow 3 (λ account. has afterP1 account 100 1 (pos 0))
 
 abbrev P2 : Bool
 P2 =
@@ -109,8 +108,8 @@ P5 =
 abbrev P6 : Bool
 P6 =
     accepts afterP5 (minus20 101 101)
-    && every (λ side. nothingIn (row afterP6 (1 /₁ 1) 102 side)) (1 ∷ 2 ∷ [])
-    && every (λ side. alike sameℤ (row afterP6 (1 /₁ 1) 100 side) (row afterP5 (1 /₁ 1) 100 side)) (1 ∷ 2 ∷ [])
+    && every (λ side. empty afterP6 (1 /₁ 1) 102 side 50) (1 ∷ 2 ∷ [])
+    && every (λ side. shows afterP6 (1 /₁ 1) 100 side (negℤ (pos 20) ∷ replicate 47 (pos 0))) (1 ∷ 2 ∷ [])
 
 abbrev P7 : Bool
 P7 = answers afterP5 (tell 1 7 (1 /₁ 2) 101 101 1 (pos 5)) 13
