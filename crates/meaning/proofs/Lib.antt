@@ -3,6 +3,16 @@ pub mod Opened
 pub mod Stories
 pub mod Table
 pub mod Examples
+pub mod OurBook
+pub mod OurOrders
+pub mod OurRefusals
+pub mod OurKinds
+pub mod OurEffects
+pub mod OurFigures
+pub mod OurSetups
+pub mod OurPackedMessages
+pub mod OurPackedSetups
+pub mod OurTable
 pub mod Places
 pub mod Clock
 pub mod SetupRules

@@ -48,10 +48,25 @@ answers b c number = refusal b c =? number
 abbrev pub accepts : Book contracts → Call contracts → Bool
 accepts b c = answers b c 0
 
-abbrev pub initial : Book contracts → Call contracts → Bool
-initial b gate = false
-initial b (message (notification n)) = notified b n .kind =? 1
-initial b (message (nullification x)) = false
+-- a notification's answer with its kind (1 initial, 2 replacement, 3 additional) and its slot
+abbrev pub notifies : Book contracts → Call contracts → ℕ → ℕ → ℕ → Bool
+notifies b gate number kind slot = false
+notifies b (message (notification n)) number kind slot =
+    notified b n .answer =? number && notified b n .kind =? kind && notified b n .slot =? slot
+notifies b (message (nullification x)) number kind slot = false
+
+abbrev pub initialIn : ℕ → Book contracts → Call contracts → Bool
+initialIn slot b c = notifies b c 0 1 slot
+
+abbrev pub replacementIn : ℕ → Book contracts → Call contracts → Bool
+replacementIn slot b c = notifies b c 0 2 slot
+
+abbrev pub additionalIn : ℕ → Book contracts → Call contracts → Bool
+additionalIn slot b c = notifies b c 0 3 slot
+
+-- "A refusal .. its other results are zero"
+abbrev pub refuses : ℕ → Book contracts → Call contracts → Bool
+refuses number b c = notifies b c number 0 0
 
 -- the total of an account in a period of a day, with the answer 0: a refusal would give the total 0 too
 abbrev pub has : Book contracts → ℕ → ℕ → ℕ → ℤ → Bool

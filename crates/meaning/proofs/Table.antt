@@ -17,7 +17,7 @@ use Rattle.meaning.specs.Bars.{seenBar}
 use Rattle.meaning.specs.PackedMessages.{writeMessage}
 use Rattle.meaning.specs.PackedMessages as Packed
 use Rattle.meaning.proofs.Opened as Opened
-use Rattle.meaning.proofs.Stories.{_/₁_, tell, cancel, answers, accepts, initial, has, disagreed, alike, nothingIn, shows, empty}
+use Rattle.meaning.proofs.Stories.{_/₁_, tell, cancel, answers, accepts, initialIn, has, disagreed, alike, nothingIn, shows, empty}
 
 -- ---- the book of the table, with four slots
 
@@ -77,8 +77,7 @@ afterP12 = after afterP2 (cancel 1 0 100 ∷ [])
 
 abbrev P1 : Bool
 P1 =
-    accepts start (seven (pos 5000))
-    && initial start (seven (pos 5000))
+    initialIn 0 start (seven (pos 5000))
     && everyBelow 3 (λ account. has afterP1 account 100 1 (pos 0))
 
 abbrev P2 : Bool
