@@ -5,12 +5,12 @@ use mathlib.Core.Path.{_≡_, sym, ap, _∙_}
 use Prim.Native.Nat.{ℕ, suc, _+_, _<_}
 use native.Mathlib.Omega.{arith}
 use lib.Dec.{eqb}
-use lib.IntN.{ℤ, pos}
+use lib.IntN.{ℤ}
 use lib.ListN.{getD}
 use Rattle.words.specs.Rules.{answer}
 use Rattle.meaning.specs.Time.{periodsAt, days, dayOf, hasDay}
 use Rattle.meaning.specs.Authorisations.{rowAt}
-use Rattle.meaning.specs.Ledgers.{index, at, originatorOf, identifierOf, slotOf}
+use Rattle.meaning.specs.Ledgers.{theMark, index, at, originatorOf, identifierOf, slotOf}
 use Rattle.meaning.specs.Bars.{mark}
 use Rattle.book.specs.declared.Book.{Book}
 use Rattle.book.specs.Structs.{timeIn, rowsIn}
@@ -32,7 +32,7 @@ module _ (b : Book) (held : List ℕ) (side1 side2 : List ℤ) (originator refer
 
   pub mark-at : (place : ℕ) → place ≡ index (days (timeIn b)) (slotOf held identifier) (dayOf (timeIn b) D) period
       → markAnswer (before b held side1 side2 identifier D) identifier account D period ≡ 0
-      → barSeen (isFirst b originator account) (getD side1 place (pos 0)) (getD side2 place (pos 0)) ≡ barFor (mark (before b held side1 side2 identifier D) identifier account D period)
+      → barSeen (isFirst b originator account) (getD side1 place theMark) (getD side2 place theMark) ≡ barFor (mark (before b held side1 side2 identifier D) identifier account D period)
   unfolding at
   mark-at place q e =
       sym (mark-answered (before b held side1 side2 identifier D) identifier account D period e ∙ rw (first-is, q))

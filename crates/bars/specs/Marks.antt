@@ -2,7 +2,7 @@
 use mathlib.Core.Bool.{Bool, false, not, _&&_, _||_}
 use mathlib.Core.List.{List}
 use Prim.Native.Nat.{ℕ, suc, _+_}
-use lib.IntN.{ℤ, pos, negℤ}
+use lib.IntN.{ℤ, negℤ}
 use lib.Ieee.{Float, fin}
 use lib.ListN.{getD}
 use Rattle.words.specs.Tests.{if_then_else_, _<?_, _=?_}
@@ -10,7 +10,7 @@ use Rattle.words.specs.Lists.{mapAt}
 use Rattle.words.specs.Rules.{Rule, _when_else_, done, answer}
 use Rattle.meaning.specs.Time.{periodsAt, dayOf, hasDay}
 use Rattle.meaning.specs.Authorisations.{rowAt, inPair}
-use Rattle.meaning.specs.Ledgers.{contracts, originatorOf, isHeld}
+use Rattle.meaning.specs.Ledgers.{contracts, theMark, originatorOf, isHeld}
 use Rattle.meaning.specs.Books.{Book, hasAccount}
 use Rattle.meaning.specs.Soundness.{sound}
 use Rattle.meaning.specs.Totals.{mwh}
@@ -64,4 +64,4 @@ dayMarked value b i account D refusal buffer =
 
 -- what the two sides hold in the place p past `start`
 unfoldable pub barFrom : Bool → List ℤ → List ℤ → ℕ → ℕ → Bar
-barFrom first side1 side2 start p = barSeen first (getD side1 (start + p) (pos 0)) (getD side2 (start + p) (pos 0))
+barFrom first side1 side2 start p = barSeen first (getD side1 (start + p) theMark) (getD side2 (start + p) theMark)

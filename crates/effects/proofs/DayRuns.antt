@@ -32,18 +32,18 @@ only-is p f j old e = rw e
 
 module _ (f : ℕ → ℤ → ℤ) (l : List ℤ) where
   pub only-none : (p : ℕ → Bool) → ((j : ℕ) → p j ≡ false) → l ≡ mapAt (only p f) l
-  only-none p h = mapAt-is (only p f) l l (pos 0) refl (λ j w. sym (only-id p f j (getD l j (pos 0)) (h j)))
+  only-none p h = mapAt-is (only p f) l l theMark refl (λ j w. sym (only-id p f j (getD l j theMark) (h j)))
 
   pub only-more : (p q r : ℕ → Bool) (l1 l2 : List ℤ) → l1 ≡ mapAt (only p f) l → l2 ≡ mapAt (only q f) l1
       → ((j : ℕ) → p j ≡ true → q j ≡ false) → ((j : ℕ) → r j ≡ p j || q j) → l2 ≡ mapAt (only r f) l
   only-more p q r l1 l2 e1 e2 apart joined =
       let n1 : length l1 ≡ length l = ap length e1 ∙ length-mapAt (only p f) l in
-      mapAt-is (only r f) l l2 (pos 0) (ap length e2 ∙ length-mapAt (only q f) l1 ∙ n1)
+      mapAt-is (only r f) l l2 theMark (ap length e2 ∙ length-mapAt (only q f) l1 ∙ n1)
       (λ j w.
-      let v = getD l j (pos 0) in
-      let v1 : getD l1 j (pos 0) ≡ only p f j v = ap (λ (x : List ℤ). getD x j (pos 0)) e1 ∙ getD-mapAt (only p f) l j (pos 0) w in
-      ap (λ (x : List ℤ). getD x j (pos 0)) e2
-      ∙ getD-mapAt (only q f) l1 j (pos 0) (omega arith)
+      let v = getD l j theMark in
+      let v1 : getD l1 j theMark ≡ only p f j v = ap (λ (x : List ℤ). getD x j theMark) e1 ∙ getD-mapAt (only p f) l j theMark w in
+      ap (λ (x : List ℤ). getD x j theMark) e2
+      ∙ getD-mapAt (only q f) l1 j theMark (omega arith)
       ∙ ap (only q f j) v1
       ∙ on (p j)
       (λ t. only-id q f j (only p f j v) (apart j t) ∙ only-is p f j v t ∙ sym (only-is r f j v (joined j ∙ rw t)))
@@ -53,7 +53,7 @@ module _ (f : ℕ → ℤ → ℤ) (l : List ℤ) where
 
   pub only-all : (p : ℕ → Bool) → ((j : ℕ) (old : ℤ) → p j ≡ false → f j old ≡ old) → mapAt (only p f) l ≡ mapAt f l
   only-all p h =
-      mapAt-same (only p f) f l (pos 0)
+      mapAt-same (only p f) f l theMark
       (λ j w. on (p j) (λ t. only-is p f j _ t) (λ t. only-id p f j _ t ∙ sym (h j _ t)))
 
 -- below the next number: below this one, or this one
@@ -180,8 +180,8 @@ module _ (t : Time) (n slot d first until : ℕ) (volumes : List ℤ) (e : days 
     -- before the first day nothing is written
     pub day-early : dayNumber t d < first → side ≡ mapAt (only (λ (k : ℕ). eqb (dayAt n k) d) (slotRule t slot first until volumes)) side
     day-early h =
-        mapAt-is _ side side (pos 0) refl
-        (λ j w. sym (day-rule j (getD side j (pos 0)) ∙ rw (lt-leb first (dayNumber t d) h, and-false _)))
+        mapAt-is _ side side theMark refl
+        (λ j w. sym (day-rule j (getD side j theMark) ∙ rw (lt-leb first (dayNumber t d) h, and-false _)))
 
     -- a day before `until`
     pub day-stored : first ≤ dayNumber t d → dayNumber t d < until → length volumes ≡ 50
@@ -195,9 +195,9 @@ module _ (t : Time) (n slot d first until : ℕ) (volumes : List ℤ) (e : days 
         let part = take (periods - from) (drop from volumes) in
         let size : length part ≡ periods - from = simp (length-take, length-drop) (omega arith) in
         sets-map side (base + from) part (pos 0)
-        ∙ mapAt-same _ _ side (pos 0)
+        ∙ mapAt-same _ _ side theMark
         (λ j w.
-        let old = getD side j (pos 0) in
+        let old = getD side j theMark in
         sym (day-rule j old ∙ rw (le-leb first (dayNumber t d) low, lt-ltb (dayNumber t d) until high, and-true (leb (base + from) j && ltb j (base + from + (periods - from))))
         (rw size
         (on (leb (base + from) j && ltb j (base + from + (periods - from)))
@@ -218,9 +218,9 @@ module _ (t : Time) (n slot d first until : ℕ) (volumes : List ℤ) (e : days 
         let periods = periodsAt (t .codes) d in
         let size : length (replicate (periods - from) theMark) ≡ periods - from = length-replicate (periods - from) theMark in
         sets-map side (base + from) (replicate (periods - from) theMark) (pos 0)
-        ∙ mapAt-same _ _ side (pos 0)
+        ∙ mapAt-same _ _ side theMark
         (λ j w.
-        let old = getD side j (pos 0) in
+        let old = getD side j theMark in
         sym (day-rule j old ∙ rw (le-leb first (dayNumber t d) low, le-ltb (dayNumber t d) until high, and-true (leb (base + from) j && ltb j (base + from + (periods - from))))
         (rw size
         (on (leb (base + from) j && ltb j (base + from + (periods - from)))

@@ -140,18 +140,18 @@ module _ (rows : List Authorisation) (t : Time) (n : Notification contracts) (he
   written-side apart room w =
       let i = n .identifier in
       rewritten-rule rows t (notification n) (with held i) σ table
-      ∙ mapAt-same (placeRule rows t (notification n) (with held i) σ) (slotRule t (slotFor held i) (n .first) (suc (n .last)) (volumesGiven n)) table (pos 0)
+      ∙ mapAt-same (placeRule rows t (notification n) (with held i) σ) (slotRule t (slotFor held i) (n .first) (suc (n .last)) (volumesGiven n)) table theMark
       (λ j h.
-      place-slot t (notification n) (suc (n .last)) (volumesGiven n) (notification-gives n) rows (with held i) σ (slotFor held i) j (getD table j (pos 0))
+      place-slot t (notification n) (suc (n .last)) (volumesGiven n) (notification-gives n) rows (with held i) σ (slotFor held i) j (getD table j theMark)
       (about-entry rows n σ (getD (with held i) (slotAt (days t) j) 0) ∙ rw (w, own-slot held i apart room (slotAt (days t) j)) (and-true (eqb (slotAt (days t) j) (slotFor held i)))))
 
   -- a side that it does not write stays
   pub unwritten-side : (after : List ℕ) → writes rows n σ ≡ false → rewritten rows t (notification n) after σ table ≡ table
   unwritten-side after w =
       rewritten-rule rows t (notification n) after σ table
-      ∙ sym (mapAt-is (placeRule rows t (notification n) after σ) table table (pos 0) refl
+      ∙ sym (mapAt-is (placeRule rows t (notification n) after σ) table table theMark refl
       (λ j h.
-      sym (place-not t (notification n) rows after σ j (getD table j (pos 0))
+      sym (place-not t (notification n) rows after σ j (getD table j theMark)
       (about-entry rows n σ (getD after (slotAt (days t) j) 0) ∙ rw (w, and-false (eqb (getD after (slotAt (days t) j) 0) (suc (n .identifier))))))))
 
 -- an accepted notification finds its identifiers apart and a slot for its own, so that this is its whole effect on a side
@@ -207,9 +207,9 @@ module _ (rows : List Authorisation) (t : Time) (x : Nullification) (held : List
         let here : ℕ → Bool = λ j. eqb (slotAt (days t) j) s in
         slots-more s l1 l2 e1
         (e2
-        ∙ mapAt-same (slotRule t s (x .first) 0 volumes) (only here rule) l1 (pos 0)
+        ∙ mapAt-same (slotRule t s (x .first) 0 volumes) (only here rule) l1 theMark
         (λ j h.
-        let old = getD l1 j (pos 0) in
+        let old = getD l1 j theMark in
         let k = slotAt (days t) j in
         by-eq k s
         (λ q.
@@ -226,9 +226,9 @@ module _ (rows : List Authorisation) (t : Time) (x : Nullification) (held : List
         let rule = placeRule rows t (nullification x) held σ in
         let here : ℕ → Bool = λ j. eqb (slotAt (days t) j) s in
         slots-more s l1 l2 e1
-        (e2 ∙ mapAt-is (only here rule) l1 l1 (pos 0) refl
+        (e2 ∙ mapAt-is (only here rule) l1 l1 theMark refl
         (λ j h.
-        let old = getD l1 j (pos 0) in
+        let old = getD l1 j theMark in
         let k = slotAt (days t) j in
         by-eq k s
         (λ q.

@@ -3,11 +3,11 @@ use mathlib.Core.Bool.{Bool, _&&_, _||_}
 use mathlib.Core.List.{List}
 use mathlib.Core.Path.{_≡_}
 use Prim.Native.Nat.{ℕ, _+_, _*_, _≤_, _<_}
-use lib.IntN.{ℤ, pos}
+use lib.IntN.{ℤ}
 use lib.ListN.{length, getD}
 use Rattle.words.specs.Tests.{if_then_else_, _≤?_, _=?_, between}
 use Rattle.meaning.specs.Time.{Time, periodsAt, dayNumber}
-use Rattle.meaning.specs.Ledgers.{contracts, stands, places}
+use Rattle.meaning.specs.Ledgers.{contracts, theMark, stands, places}
 use Rattle.meaning.specs.Messages.{Notification}
 use Rattle.meaning.specs.Books as Books
 use Rattle.meaning.specs.Notifications.{statesOn, kindOf, kindNumber}
@@ -33,7 +33,7 @@ pub record Inside (side1 side2 : List ℤ) (days s d p : ℕ) : Type 0 where
 -- a place states something, on a side that is written
 unfoldable pub statesPlace : List ℤ → List ℤ → Bool → Bool → ℕ → Bool
 statesPlace side1 side2 w1 w2 i =
-    (w1 && stands contracts (getD side1 i (pos 0))) || (w2 && stands contracts (getD side2 i (pos 0)))
+    (w1 && stands contracts (getD side1 i theMark)) || (w2 && stands contracts (getD side2 i theMark))
 
 -- the periods of a day that is not before `first`; of one of `first` to `last`; none of another
 unfoldable pub periodsFrom : Time → ℕ → ℕ → ℕ

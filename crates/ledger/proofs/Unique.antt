@@ -3,7 +3,7 @@ use mathlib.Core.Bool.{Bool}
 use mathlib.Core.List.{List}
 use mathlib.Core.Path.{_≡_}
 use Prim.Native.Nat.{ℕ}
-use lib.IntN.{ℤ, pos}
+use lib.IntN.{ℤ}
 use lib.ListN.{getD, replicate}
 use lib.Seq.{sets}
 use Rattle.words.specs.Lists.{find}
@@ -13,7 +13,7 @@ use Rattle.meaning.specs.Ledgers.{contracts, stands, theMark}
 pub unique-states : (v : ℤ) (r r′ : Bool) → r ≡ stands contracts v → r′ ≡ stands contracts v → r ≡ r′
 unique-states v r r′ p q = one-outcome p q
 
-pub unique-volume-at : (side : List ℤ) (place : ℕ) (r r′ : ℤ) → r ≡ getD side place (pos 0) → r′ ≡ getD side place (pos 0) → r ≡ r′
+pub unique-volume-at : (side : List ℤ) (place : ℕ) (r r′ : ℤ) → r ≡ getD side place theMark → r′ ≡ getD side place theMark → r ≡ r′
 unique-volume-at side place r r′ p q = one-outcome p q
 
 pub unique-slot-with : (held : List ℕ) (entry r r′ : ℕ) → r ≡ find entry held → r′ ≡ find entry held → r ≡ r′

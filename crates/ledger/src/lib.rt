@@ -1,7 +1,6 @@
 // The lent tables of a book: what a place holds, the slot of an identifier, and runs of places stored (meaning, Ledgers.antt).
 ghost use mathlib.Core.Path.{_≡_};
 ghost use Prim.Native.Nat.{_-_, min};
-ghost use lib.IntN.{pos};
 ghost use lib.ListN.{getD, replicate};
 ghost use lib.Seq.{sets};
 ghost use Rattle.words.specs.Lists.{find};
@@ -29,14 +28,14 @@ pub fn states(v: i32) -> bool
     v != MARK
 }
 
-// What stands at a place of a side's table. Past its end it is 0, so that no reader owes an index.
+// What stands at a place of a side's table. Past its end it is the mark, nothing, so that no reader owes an index.
 pub fn volume_at(side: &[i32], place: usize) -> i32
-    ensures { λ r. ⌜ r ≡ getD (now (side .entry)) place (pos 0) ⌝ }
+    ensures { λ r. ⌜ r ≡ getD (now (side .entry)) place theMark ⌝ }
 {
     if place < side.len() {
         return side[place];
     }
-    0
+    MARK
 }
 
 // The first slot whose entry is this one; the number of slots where none is.

@@ -101,7 +101,7 @@ module _ {K : Sort} (lawful : Lawful K) (setup : Setup) (slots lent1 lent2 : ℕ
       let s = after-running lawful setup slots lent1 lent2 opening calls .0 in
       let own = s .slots k i hk e .own in
       let here : find (suc i) (b .ledger .held) < length (b .ledger .held) = rw own hk in
-      sym (stands-held b i σ D period here ∙ ap (λ (x : ℕ). getD (side (b .ledger) σ) (index (days (b .time)) x (dayOf (b .time) D) period) (K .omitted)) own)
+      sym (stands-held b i σ D period here ∙ ap (λ (x : ℕ). getD (side (b .ledger) σ) (index (days (b .time)) x (dayOf (b .time) D) period) (K .nothing)) own)
       ∙ history lawful setup slots lent1 lent2 opening calls i σ D period p
 
   -- an unheld slot stores nothing

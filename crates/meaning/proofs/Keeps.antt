@@ -62,10 +62,10 @@ module _ {K : Sort} (lawful : Lawful K) where
   side-opened s slots two = refl
 
   opened-place : (s : Setup) (slots : ℕ) (σ : Side) (j : ℕ) → j < length (side (openedBook K s slots .ledger) σ)
-      → getD (side (openedBook K s slots .ledger) σ) j (K .omitted) ≡ K .nothing
+      → getD (side (openedBook K s slots .ledger) σ) j (K .nothing) ≡ K .nothing
   opened-place s slots σ j h =
-      ap (λ (t : List (K .Val)). getD t j (K .omitted)) (side-opened s slots σ)
-      ∙ getD-replicate (places slots (length (s .codes))) j (K .nothing) (K .omitted) (rw (side-opened s slots σ, length-replicate) at h)
+      ap (λ (t : List (K .Val)). getD t j (K .nothing)) (side-opened s slots σ)
+      ∙ getD-replicate (places slots (length (s .codes))) j (K .nothing) (K .nothing) (rw (side-opened s slots σ, length-replicate) at h)
 
   pub opened-Sound : (s : Setup) (slots lent1 lent2 : ℕ) → answer (openingRules s slots lent1 lent2) ≡ 0 → Sound (openedBook K s slots)
   unfolding openedBook emptyLedger
@@ -87,7 +87,7 @@ module _ {K : Sort} (lawful : Lawful K) where
   unfolding act withGateClosed
   gate-keeps b p s = record { setup = s .setup; clock = p .open-gate; slots = s .slots; place = side-same }
     where
-      side-same : (σ : Side) (j : ℕ) → j < length (side (b .ledger) σ) → placeRight K (b .time .codes) (b .ledger .held) j (getD (side (b .ledger) σ) j (K .omitted)) ≡ true
+      side-same : (σ : Side) (j : ℕ) → j < length (side (b .ledger) σ) → placeRight K (b .time .codes) (b .ledger .held) j (getD (side (b .ledger) σ) j (K .nothing)) ≡ true
       side-same σ j h = s .place σ j h
 
   -- ---- a message
@@ -133,7 +133,7 @@ module _ {K : Sort} (lawful : Lawful K) where
       (held-more : (k : ℕ) → 0 < getD (b .ledger .held) k 0 → 0 < getD (heldAfter m (b .ledger .held)) k 0)
       (slots-right : (k i : ℕ) → k < length (b .ledger .held) → getD (heldAfter m (b .ledger .held)) k 0 ≡ suc i → SlotHolds (length (b .rows)) (heldAfter m (b .ledger .held)) k i) where
     place-keeps : (σ : Side) (j : ℕ) → j < length (side (b .ledger) σ)
-        → placeRight K (b .time .codes) (heldAfter m (b .ledger .held)) j (getD (rewritten (b .rows) (b .time) m (heldAfter m (b .ledger .held)) σ (side (b .ledger) σ)) j (K .omitted)) ≡ true
+        → placeRight K (b .time .codes) (heldAfter m (b .ledger .held)) j (getD (rewritten (b .rows) (b .time) m (heldAfter m (b .ledger .held)) σ (side (b .ledger) σ)) j (K .nothing)) ≡ true
     place-keeps σ j h =
         let held = heldAfter m (b .ledger .held) in
         let t = b .time in
@@ -158,7 +158,7 @@ module _ {K : Sort} (lawful : Lawful K) where
         }
       where
         side-keeps : (σ : Side) (j : ℕ) → j < length (side (written (b .rows) (b .time) m (b .ledger)) σ)
-            → placeRight K (b .time .codes) (heldAfter m (b .ledger .held)) j (getD (side (written (b .rows) (b .time) m (b .ledger)) σ) j (K .omitted)) ≡ true
+            → placeRight K (b .time .codes) (heldAfter m (b .ledger .held)) j (getD (side (written (b .rows) (b .time) m (b .ledger)) σ) j (K .nothing)) ≡ true
         side-keeps σ j h =
             rw side-written
             (place-keeps σ j (rw (side-written (b .rows) (b .time) m (b .ledger) σ, length-rewritten) at h))

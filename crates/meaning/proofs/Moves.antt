@@ -50,7 +50,7 @@ module _ {K : Sort} where
 
   module _ (b : Book K) (i : ℕ) (σ : Side) (D period : ℕ) where
     pub stands-held : find (suc i) (b .ledger .held) < length (b .ledger .held)
-        → standing b i σ D period ≡ getD (side (b .ledger) σ) (index (days (b .time)) (find (suc i) (b .ledger .held)) (dayOf (b .time) D) period) (K .omitted)
+        → standing b i σ D period ≡ getD (side (b .ledger) σ) (index (days (b .time)) (find (suc i) (b .ledger .held)) (dayOf (b .time) D) period) (K .nothing)
     unfolding standing at
     stands-held h = rw (held-is (b .ledger .held) i h)
 
@@ -90,10 +90,10 @@ unheld-gives {K} rows i σ D period t (nullification x) held r h =
 module _ {K : Sort} (lawful : Lawful K) where
   -- nothing stands in a slot that is unheld
   pub unheld-nothing : (b : Book K) → Sound b → (σ : Side) (j : ℕ) → j < length (side (b .ledger) σ) → getD (b .ledger .held) (slotAt (days (b .time)) j) 0 ≡ 0
-      → getD (side (b .ledger) σ) j (K .omitted) ≡ K .nothing
+      → getD (side (b .ledger) σ) j (K .nothing) ≡ K .nothing
   unfolding placeRight
   unheld-nothing b s σ j h z =
-      let v = getD (side (b .ledger) σ) j (K .omitted) in
+      let v = getD (side (b .ledger) σ) j (K .nothing) in
       on (K .same v (K .nothing))
       (λ e. lawful .same-is v (K .nothing) e)
       (λ e. absurd (unheld-wrong (K .inRange v) _ (rw (e, z) at (s .place σ j h))))
@@ -101,9 +101,9 @@ module _ {K : Sort} (lawful : Lawful K) where
   module _ (b : Book K) (s : Sound b) (i : ℕ) (σ : Side) (D period : ℕ) (p : isPeriod (b .time) D period ≡ true) where
     -- what a message makes of the place that a slot has for the day and period, if the slot holds the identifier afterwards
     place-moves : (m : Message K) (held : List ℕ) (k : ℕ) → k < length (b .ledger .held) → getD held k 0 ≡ suc i
-        → getD (rewritten (b .rows) (b .time) m held σ (side (b .ledger) σ)) (index (days (b .time)) k (dayOf (b .time) D) period) (K .omitted)
+        → getD (rewritten (b .rows) (b .time) m held σ (side (b .ledger) σ)) (index (days (b .time)) k (dayOf (b .time) D) period) (K .nothing)
         ≡ cond (concerns (b .rows) i σ D period (b .time) (message m)) (gives D period (message m))
-        (getD (side (b .ledger) σ) (index (days (b .time)) k (dayOf (b .time) D) period) (K .omitted))
+        (getD (side (b .ledger) σ) (index (days (b .time)) k (dayOf (b .time) D) period) (K .nothing))
     unfolding isPeriod
     place-moves m held k hk e =
         let t = b .time in
@@ -137,13 +137,13 @@ module _ {K : Sort} (lawful : Lawful K) where
         (λ l.
         let kl : k < length (b .ledger .held) = omega arith in
         let j = index (days t) k d period in
-        let old : getD (side (b .ledger) σ) j (K .omitted) ≡ standing b i σ D period =
+        let old : getD (side (b .ledger) σ) j (K .nothing) ≡ standing b i σ D period =
         ⊎-elim
-        (λ q. ap (λ (x : ℕ). getD (side (b .ledger) σ) (index (days t) x d period) (K .omitted)) q ∙ sym (stands-held b i σ D period (rw q at kl)))
+        (λ q. ap (λ (x : ℕ). getD (side (b .ledger) σ) (index (days t) x d period) (K .nothing)) q ∙ sym (stands-held b i σ D period (rw q at kl)))
         (λ q. unheld-nothing b s σ j (rw (length-side b s σ) (index-lt (days t) k hd h1 h50 kl)) (rw (slot-index (days t) k hd h1 h50) (q .2)) ∙ sym (stands-unheld b i σ D period (q .0)))
         (after i m (b .ledger .held) r) in
         stands-held b′ i σ D period l
-        ∙ ap (λ (x : List (K .Val)). getD x j (K .omitted)) (side-written lawful (b .rows) t m (b .ledger) σ)
+        ∙ ap (λ (x : List (K .Val)). getD x j (K .nothing)) (side-written lawful (b .rows) t m (b .ledger) σ)
         ∙ place-moves m held k kl (find-at (suc i) held l)
         ∙ ap (λ (v : K .Val). cond c (gives D period (message m)) v) old)
         (λ l.

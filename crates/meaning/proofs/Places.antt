@@ -40,9 +40,9 @@ module _ {K : Sort} (rows : List Authorisation) (t : Time) (m : Message K) (held
   length-rewritten = length-mapAt _ table
 
   pub rewritten-at : (j : ℕ) → j < length table
-      → getD (rewritten rows t m held σ table) j (K .omitted)
+      → getD (rewritten rows t m held σ table) j (K .nothing)
       ≡ cond (holds (λ (i : ℕ). about rows m i σ) (getD held (slotAt (days t) j) 0) && reaches t m (dayAt (days t) j) (periodAt j))
       (says (leaves m) (dayNumber t (dayAt (days t) j)) (periodAt j))
-      (getD table j (K .omitted))
+      (getD table j (K .nothing))
   unfolding rewritten
-  rewritten-at j h = getD-mapAt _ table j (K .omitted) h
+  rewritten-at j h = getD-mapAt _ table j (K .nothing) h

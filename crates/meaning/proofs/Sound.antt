@@ -32,7 +32,7 @@ pub record Sound {K : Sort} (b : Book K) : Type 0 where
   pub clock : b .time .closed ≤ allGates (b .time .codes)
   pub slots : (k i : ℕ) → k < length (b .ledger .held) → getD (b .ledger .held) k 0 ≡ suc i → SlotHolds (length (b .rows)) (b .ledger .held) k i
   pub place : (σ : Side) (j : ℕ) → j < length (side (b .ledger) σ)
-      → placeRight K (b .time .codes) (b .ledger .held) j (getD (side (b .ledger) σ) j (K .omitted)) ≡ true
+      → placeRight K (b .time .codes) (b .ledger .held) j (getD (side (b .ledger) σ) j (K .nothing)) ≡ true
 
 slot-holds : (known : ℕ) (held : List ℕ) (k e i : ℕ) → e ≡ suc i → slotRight known held k e ≡ true → SlotHolds known held k i
 unfolding slotRight
@@ -76,15 +76,15 @@ module _ {K : Sort} (b : Book K) where
     where
       side-right : (σ : Side) → tableRight K (b .time .codes) (b .ledger .held) (b .ledger .side1) ≡ true
           → tableRight K (b .time .codes) (b .ledger .held) (b .ledger .side2) ≡ true
-          → (j : ℕ) → j < length (side (b .ledger) σ) → placeRight K (b .time .codes) (b .ledger .held) j (getD (side (b .ledger) σ) j (K .omitted)) ≡ true
-      side-right one e q = everyAt-at (placeRight K (b .time .codes) (b .ledger .held)) (b .ledger .side1) (K .omitted) e
-      side-right two e q = everyAt-at (placeRight K (b .time .codes) (b .ledger .held)) (b .ledger .side2) (K .omitted) q
+          → (j : ℕ) → j < length (side (b .ledger) σ) → placeRight K (b .time .codes) (b .ledger .held) j (getD (side (b .ledger) σ) j (K .nothing)) ≡ true
+      side-right one e q = everyAt-at (placeRight K (b .time .codes) (b .ledger .held)) (b .ledger .side1) (K .nothing) e
+      side-right two e q = everyAt-at (placeRight K (b .time .codes) (b .ledger .held)) (b .ledger .side2) (K .nothing) q
 
   pub whole : Sound b → sound b ≡ true
   unfolding sound heldRight tableRight lent
   whole s =
-      rw (eq-eqb lent 0 (s .setup), le-leb (b .time .closed) (allGates (b .time .codes)) (s .clock), right, at-everyAt (placeRight K (b .time .codes) (b .ledger .held)) (b .ledger .side1) (K .omitted) (s .place one))
-      (at-everyAt (placeRight K (b .time .codes) (b .ledger .held)) (b .ledger .side2) (K .omitted) (s .place two))
+      rw (eq-eqb lent 0 (s .setup), le-leb (b .time .closed) (allGates (b .time .codes)) (s .clock), right, at-everyAt (placeRight K (b .time .codes) (b .ledger .held)) (b .ledger .side1) (K .nothing) (s .place one))
+      (at-everyAt (placeRight K (b .time .codes) (b .ledger .held)) (b .ledger .side2) (K .nothing) (s .place two))
     where
       right : everyAt (slotRight (length (b .rows)) (b .ledger .held)) (b .ledger .held) ≡ true
       right = at-everyAt (slotRight (length (b .rows)) (b .ledger .held)) (b .ledger .held) 0 (λ k hk. holds-slot (length (b .rows)) (b .ledger .held) k (getD (b .ledger .held) k 0) (λ i e. s .slots k i hk e))

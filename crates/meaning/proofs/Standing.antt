@@ -1,6 +1,7 @@
--- What stands in a sound book: it is in range, its slot is held, and a held identifier has a right row.
-use mathlib.Core.Bool.{true, _&&_}
-use mathlib.Core.Path.{_≡_, refl}
+-- What stands in a sound book: it is in range, its slot is held, and a held identifier has a right row. Outside a table nothing stands.
+use mathlib.Core.Bool.{true, false, _&&_, false≢true}
+use mathlib.Core.List.{List}
+use mathlib.Core.Path.{_≡_, refl, sym, _∙_}
 use Prim.Native.Nat.{ℕ, zero, suc, _≤_, _<_}
 use native.Mathlib.Omega.{arith}
 use lib.Dec.{ltb}
@@ -17,6 +18,12 @@ use Rattle.meaning.specs.Soundness.{placeRight}
 use Rattle.meaning.proofs.Places.{slot-index, index-lt}
 use Rattle.meaning.proofs.SetupRules.{RowRight, Opens, opens}
 use Rattle.meaning.proofs.Sound.{Lawful, Sound}
+
+-- "the mark -2,147,483,648 means nothing stands": nothing stands past a table's end, whatever the table
+pub nothing-outside : {K : Sort} → Lawful K → (days : ℕ) (table : List (K .Val)) (slot d period : ℕ) → length table ≤ index days slot d period
+    → stands K (at K days table slot d period) ≡ false
+unfolding at
+nothing-outside {K} law days table slot d period l = rw (List·getD-eq-default table (K .nothing) l, law .same-refl (K .nothing))
 
 module _ {K : Sort} (b : Book K) (s : Sound b) where
   pub sound-opens : Opens (setupOf b) (length (b .ledger .held)) (length (b .ledger .side1)) (length (b .ledger .side2))
@@ -45,18 +52,18 @@ module _ {K : Sort} (b : Book K) (s : Sound b) where
 
   module _ (σ : Side) where
     -- what stands at place j
-    stands-place : (j : ℕ) → j < length (side (b .ledger) σ) → stands K (getD (side (b .ledger) σ) j (K .omitted)) ≡ true
-        → (K .inRange (getD (side (b .ledger) σ) j (K .omitted)) ≡ true) × (0 < getD (b .ledger .held) (slotAt (days (b .time)) j) 0)
+    stands-place : (j : ℕ) → j < length (side (b .ledger) σ) → stands K (getD (side (b .ledger) σ) j (K .nothing)) ≡ true
+        → (K .inRange (getD (side (b .ledger) σ) j (K .nothing)) ≡ true) × (0 < getD (b .ledger .held) (slotAt (days (b .time)) j) 0)
     unfolding placeRight
     stands-place j l e =
-        let v = getD (side (b .ledger) σ) j (K .omitted) in
+        let v = getD (side (b .ledger) σ) j (K .nothing) in
         let h = getD (b .ledger .held) (slotAt (days (b .time)) j) 0 in
         let p = isPeriodAt (b .time .codes) (dayAt (days (b .time)) j) (periodAt j) in
         let all : K .inRange v && ltb 0 h && p ≡ true = rw e at (s .place σ j l) in
         let first = and-left (K .inRange v && ltb 0 h) p all in
         (and-left (K .inRange v) (ltb 0 h) first, ltb-true 0 h (and-right (K .inRange v) (ltb 0 h) first))
 
-    -- it is in range, also past the table's end, where it is what an omitted period gets
+    -- it is in range; past the table's end nothing stands
     pub stands-in-range : Lawful K → (slot d period : ℕ) → stands K (at K (days (b .time)) (side (b .ledger) σ) slot d period) ≡ true
         → K .inRange (at K (days (b .time)) (side (b .ledger) σ) slot d period) ≡ true
     unfolding at
@@ -64,7 +71,7 @@ module _ {K : Sort} (b : Book K) (s : Sound b) where
         let j = index (days (b .time)) slot d period in
         by-lt j (length (side (b .ledger) σ))
         (λ l. stands-place j l e .0)
-        (λ l. rw (List·getD-eq-default (side (b .ledger) σ) (K .omitted) l) (law .omitted-right))
+        (λ l. absurd (false≢true (sym (nothing-outside law (days (b .time)) (side (b .ledger) σ) slot d period l) ∙ e)))
 
     -- its slot is held
     pub standing-slot-held : (slot d period : ℕ) → slot < length (b .ledger .held) → d < days (b .time) → 1 ≤ period → period ≤ 50

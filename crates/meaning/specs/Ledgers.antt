@@ -43,8 +43,9 @@ dayAt days j = j / 50 % days
 unfoldable pub periodAt : ℕ → ℕ
 periodAt j = suc (j % 50)
 
+-- what a place of a side's table holds; outside the table nothing stands
 unfoldable pub at : (K : Sort) → ℕ → List (K .Val) → ℕ → ℕ → ℕ → K .Val
-at K days table slot d period = getD table (index days slot d period) (K .omitted)
+at K days table slot d period = getD table (index days slot d period) (K .nothing)
 
 -- "slots times days times 50 volumes"
 abbrev pub places : ℕ → ℕ → ℕ

@@ -19,7 +19,7 @@ use Rattle.laws.proofs.Machine.{abs-fits}
 use Rattle.laws.proofs.Sums.{sum-more, sum-bound}
 use Rattle.laws.proofs.Whole.{abs-add}
 use Rattle.meaning.specs.Authorisations.{Authorisation, inPair}
-use Rattle.meaning.specs.Ledgers.{index, originIn}
+use Rattle.meaning.specs.Ledgers.{theMark, index, originIn}
 use Rattle.meaning.specs.Totals.{matches, counted}
 use Rattle.meaning.proofs.Counted.{seen-other, counted-small}
 use Rattle.meaning.proofs.Sound.{parts}
@@ -72,8 +72,8 @@ unfolding countedAt
 foreign-none origin account side1 side2 place e =
     let first = eqb account (origin .account1) in
     let second = eqb account (origin .account2) in
-    let v : ℤ = getD side1 place (pos 0) in
-    on (matches v (getD side2 place (pos 0)))
+    let v : ℤ = getD side1 place theMark in
+    on (matches v (getD side2 place theMark))
     (λ m. rw m (seen-other origin v account (eqb-false account (origin .account1) (or-left first second e)) (eqb-false account (origin .account2) (or-right first second e))))
     (λ m. rw m)
 

@@ -10,7 +10,7 @@ use Rattle.words.specs.Below.{sumBelowℤ}
 use Rattle.words.specs.Lists.{mapAt}
 use Rattle.meaning.specs.Time.{days}
 use Rattle.meaning.specs.Authorisations.{Authorisation}
-use Rattle.meaning.specs.Ledgers.{contracts}
+use Rattle.meaning.specs.Ledgers.{contracts, theMark}
 use Rattle.meaning.specs.Books.{Book}
 use Rattle.meaning.specs.Soundness.{sound}
 use Rattle.meaning.specs.Totals as Meaning
@@ -31,8 +31,8 @@ pub record PartInside (first count : ℕ) (side1 side2 : List ℤ) : Type 0 wher
 -- what a place of the two tables counts for an account, under its identifier's originating authorisation
 unfoldable pub countedAt : Authorisation → ℕ → List ℤ → List ℤ → ℕ → ℤ
 countedAt origin account side1 side2 place =
-    let v : ℤ = getD side1 place (pos 0) in
-    let w : ℤ = getD side2 place (pos 0) in
+    let v : ℤ = getD side1 place theMark in
+    let w : ℤ = getD side2 place theMark in
     if Meaning.matches v w then Meaning.seenBy origin account v else pos 0
 
 -- a sum as it is answered: 26 in its place where it is beyond 99,999,999,999 either way

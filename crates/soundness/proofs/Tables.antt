@@ -7,7 +7,7 @@ use native.Mathlib.Nat.{add-zero, add-assoc}
 use native.Mathlib.Omega.{arith}
 use lib.Arith.{digits-div, digits-mod}
 use lib.Dec.{leb, ltb, eqb}
-use lib.IntN.{ℤ, pos}
+use lib.IntN.{ℤ}
 use lib.ListN.{length, getD}
 use borrow.Author.Tests.{lt-ltb, le-ltb, le-leb, leb-false, ne-eqb}
 use Rattle.words.specs.Below.{everyBelow}
@@ -17,7 +17,7 @@ use Rattle.laws.proofs.Builds.{length-build}
 use Rattle.laws.proofs.Cases.{on, by-eq, and-false, and-true, or-false}
 use Rattle.laws.proofs.Lists.{everyAt-below}
 use Rattle.meaning.specs.Time.{periodsOfCode, periodsAt, isPeriodAt}
-use Rattle.meaning.specs.Ledgers.{contracts, places, slotAt, dayAt, periodAt}
+use Rattle.meaning.specs.Ledgers.{contracts, theMark, places, slotAt, dayAt, periodAt}
 use Rattle.meaning.specs.Soundness.{placeRight, tableRight}
 use Rattle.meaning.proofs.Clock.{periods-le}
 use Rattle.clock.specs.Structs.{timeOf}
@@ -81,39 +81,39 @@ day-length codes d = record { most = periods-le codes d; least = periods-none co
 
 -- a held slot's day as it is scanned: all places, and the last four
 pub row-held : (side : List ℤ) (base n : ℕ) → 46 ≤ n → n ≤ 50
-    → everyBelow 50 (λ (k : ℕ). right (getD side (base + k) (pos 0))) && everyBelow 4 (λ (k : ℕ). ltb k (n - 46) || blank (getD side (base + 46 + k) (pos 0)))
+    → everyBelow 50 (λ (k : ℕ). right (getD side (base + k) theMark)) && everyBelow 4 (λ (k : ℕ). ltb k (n - 46) || blank (getD side (base + 46 + k) theMark))
     ≡ rowRight side base n true
 unfolding rowRight right
 row-held side base n lo hi =
-    let f : ℕ → Bool = λ k. right (getD side (base + k) (pos 0)) in
-    let g : ℕ → Bool = λ k. blank (getD side (base + k) (pos 0)) in
+    let f : ℕ → Bool = λ k. right (getD side (base + k) theMark) in
+    let g : ℕ → Bool = λ k. blank (getD side (base + k) theMark) in
     ap (λ (b : Bool). everyBelow 50 f && b)
-    (every-ext 4 (λ (k : ℕ). ltb k (n - 46) || blank (getD side (base + 46 + k) (pos 0))) (λ (k : ℕ). ltb k (n - 46) || g (46 + k))
-    (λ k l. ap (λ (j : ℕ). ltb k (n - 46) || blank (getD side j (pos 0))) (add-assoc base 46 k)))
+    (every-ext 4 (λ (k : ℕ). ltb k (n - 46) || blank (getD side (base + 46 + k) theMark)) (λ (k : ℕ). ltb k (n - 46) || g (46 + k))
+    (λ k l. ap (λ (j : ℕ). ltb k (n - 46) || blank (getD side j theMark)) (add-assoc base 46 k)))
     ∙ row-ends f g n lo hi (λ k e. rw e)
     ∙ ap (λ (b : Bool). everyBelow n f && b)
-    (every-ext (50 - n) (λ (k : ℕ). g (n + k)) (λ (k : ℕ). blank (getD side (base + n + k) (pos 0)))
-    (λ k l. ap (λ (j : ℕ). blank (getD side j (pos 0))) (sym (add-assoc base n k))))
+    (every-ext (50 - n) (λ (k : ℕ). g (n + k)) (λ (k : ℕ). blank (getD side (base + n + k) theMark))
+    (λ k l. ap (λ (j : ℕ). blank (getD side j theMark)) (sym (add-assoc base n k))))
 
 -- the day of an unheld slot, and a day without periods
 pub row-blank : (side : List ℤ) (base n : ℕ) (held : Bool) → DayLength n → held && leb 46 n ≡ false
-    → everyBelow 50 (λ (k : ℕ). blank (getD side (base + k) (pos 0))) ≡ rowRight side base n held
+    → everyBelow 50 (λ (k : ℕ). blank (getD side (base + k) theMark)) ≡ rowRight side base n held
 unfolding rowRight
 row-blank side base n false h e = refl
 row-blank side base n true h e =
     let q : n ≡ 0 = h .least (leb-false 46 n e) in
-    rw (q, every-none) (every-ext 50 (λ (k : ℕ). blank (getD side (base + k) (pos 0))) (λ (k : ℕ). blank (getD side (base + 0 + k) (pos 0))) (λ k l. rw add-zero))
+    rw (q, every-none) (every-ext 50 (λ (k : ℕ). blank (getD side (base + k) theMark)) (λ (k : ℕ). blank (getD side (base + 0 + k) theMark)) (λ k l. rw add-zero))
 
 -- a slot's day
 row-here : (side : List ℤ) (codes held : List ℕ) (s d : ℕ) → d < length codes
-    → everyBelow 50 (λ (p : ℕ). placeRight contracts codes held ((s * length codes + d) * 50 + p) (getD side ((s * length codes + d) * 50 + p) (pos 0)))
+    → everyBelow 50 (λ (p : ℕ). placeRight contracts codes held ((s * length codes + d) * 50 + p) (getD side ((s * length codes + d) * 50 + p) theMark))
     ≡ rowRight side ((s * length codes + d) * 50) (periodsAt codes d) (ltb 0 (getD held s 0))
 unfolding rowRight
 row-here side codes held s d hd =
     let base = (s * length codes + d) * 50 in
     let n = periodsAt codes d in
     let few = periods-le codes d in
-    let f : ℕ → Bool = λ p. placeRight contracts codes held (base + p) (getD side (base + p) (pos 0)) in
+    let f : ℕ → Bool = λ p. placeRight contracts codes held (base + p) (getD side (base + p) theMark) in
     on (ltb 0 (getD held s 0))
     (λ e.
     let split : n + (50 - n) ≡ 50 = omega arith in
@@ -121,10 +121,10 @@ row-here side codes held s d hd =
     (sym (ap (λ (k : ℕ). everyBelow k f) split)
     ∙ every-add n (50 - n) f
     ∙ ap₂ _&&_
-    (every-ext n f (λ (k : ℕ). right (getD side (base + k) (pos 0))) (λ k h. place-held codes held s hd (omega arith) (getD side (base + k) (pos 0)) e h))
-    (every-ext (50 - n) (λ (k : ℕ). f (n + k)) (λ (k : ℕ). blank (getD side (base + n + k) (pos 0)))
-    (λ k h. place-past codes held s hd (omega arith) (getD side (base + (n + k)) (pos 0)) (omega arith) ∙ ap (λ (j : ℕ). blank (getD side j (pos 0))) (sym (add-assoc base n k))))))
-    (λ e. rw e (every-ext 50 f (λ (k : ℕ). blank (getD side (base + k) (pos 0))) (λ k h. place-unheld codes held s hd h (getD side (base + k) (pos 0)) e)))
+    (every-ext n f (λ (k : ℕ). right (getD side (base + k) theMark)) (λ k h. place-held codes held s hd (omega arith) (getD side (base + k) theMark) e h))
+    (every-ext (50 - n) (λ (k : ℕ). f (n + k)) (λ (k : ℕ). blank (getD side (base + n + k) theMark))
+    (λ k h. place-past codes held s hd (omega arith) (getD side (base + (n + k)) theMark) (omega arith) ∙ ap (λ (j : ℕ). blank (getD side j theMark)) (sym (add-assoc base n k))))))
+    (λ e. rw e (every-ext 50 f (λ (k : ℕ). blank (getD side (base + k) theMark)) (λ k h. place-unheld codes held s hd h (getD side (base + k) theMark) e)))
 
 -- the whole table
 table-here : (side : List ℤ) (codes held : List ℕ) → length side ≡ places (length held) (length codes)
@@ -133,8 +133,8 @@ table-here : (side : List ℤ) (codes held : List ℕ) → length side ≡ place
 unfolding tableRight
 table-here side codes held e =
     let n = length codes in
-    let f : ℕ → Bool = λ j. placeRight contracts codes held j (getD side j (pos 0)) in
-    everyAt-below (placeRight contracts codes held) side (pos 0)
+    let f : ℕ → Bool = λ j. placeRight contracts codes held j (getD side j theMark) in
+    everyAt-below (placeRight contracts codes held) side theMark
     ∙ ap (λ (k : ℕ). everyBelow k f) e
     ∙ every-runs (length held * n) 50 f
     ∙ every-runs (length held) n (λ (a : ℕ). everyBelow 50 (λ (b : ℕ). f (a * 50 + b)))

@@ -3,12 +3,12 @@ use mathlib.Core.Bool.{Bool, not, _&&_, _||_}
 use mathlib.Core.List.{List}
 use mathlib.Core.Path.{_≡_}
 use Prim.Native.Nat.{ℕ, _+_, _-_, _*_, _≤_, _<_}
-use lib.IntN.{ℤ, pos}
+use lib.IntN.{ℤ}
 use lib.ListN.{length, getD}
 use Rattle.words.specs.Tests.{if_then_else_, _≤?_, _=?_, within}
 use Rattle.words.specs.Below.{everyBelow}
 use Rattle.meaning.specs.Time.{periodsAt}
-use Rattle.meaning.specs.Ledgers.{contracts, stands, places}
+use Rattle.meaning.specs.Ledgers.{contracts, theMark, stands, places}
 use Rattle.meaning.specs.Soundness.{tableRight}
 use Rattle.clock.specs.Structs.{timeOf}
 use Rattle.clock.specs.declared.Clock.{Clock}
@@ -34,9 +34,9 @@ pub record DayLength (periods : ℕ) : Type 0 where
 unfoldable pub rowRight : List ℤ → ℕ → ℕ → Bool → Bool
 rowRight side base periods held =
     if held
-    then everyBelow periods (λ (k : ℕ). right (getD side (base + k) (pos 0)))
-    && everyBelow (50 - periods) (λ (k : ℕ). blank (getD side (base + periods + k) (pos 0)))
-    else everyBelow 50 (λ (k : ℕ). blank (getD side (base + k) (pos 0)))
+    then everyBelow periods (λ (k : ℕ). right (getD side (base + k) theMark))
+    && everyBelow (50 - periods) (λ (k : ℕ). blank (getD side (base + periods + k) theMark))
+    else everyBelow 50 (λ (k : ℕ). blank (getD side (base + k) theMark))
 
 -- every day of a slot
 unfoldable pub daysRight : List ℤ → ℕ → Bool → Clock → Bool

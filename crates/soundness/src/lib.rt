@@ -2,10 +2,10 @@
 ghost use mathlib.Core.Bool.{_||_};
 ghost use mathlib.Core.Path.{_≡_};
 ghost use Prim.Native.Nat.{ℕ, _+_, _≤_, _<_};
-ghost use lib.IntN.{pos};
 ghost use lib.ListN.{length, getD};
 ghost use Rattle.words.specs.Tests.{_<?_};
 ghost use Rattle.words.specs.Below.{everyBelow};
+ghost use Rattle.meaning.specs.Ledgers.{theMark};
 ghost use Rattle.meaning.specs.Soundness.{slotRight, heldRight};
 ghost use Rattle.soundness.specs.Parts.{blank, right, other, DayLength, rowRight, daysRight, SlotInside, sideRight};
 
@@ -23,7 +23,7 @@ fn is_right(v: i32) -> bool
 
 // Nothing stands in any place of the part.
 pub fn all_blank(part: &[i32]) -> bool
-    ensures { λ r. ⌜ r ≡ everyBelow (length (now (part .entry))) (λ (k : ℕ). blank (getD (now (part .entry)) k (pos 0))) ⌝ }
+    ensures { λ r. ⌜ r ≡ everyBelow (length (now (part .entry))) (λ (k : ℕ). blank (getD (now (part .entry)) k theMark)) ⌝ }
 {
     let mut ok = true;
     for k in 0..part.len() {
@@ -34,7 +34,7 @@ pub fn all_blank(part: &[i32]) -> bool
 
 // Each place of the part holds the mark or a volume in range.
 pub fn all_right(part: &[i32]) -> bool
-    ensures { λ r. ⌜ r ≡ everyBelow (length (now (part .entry))) (λ (k : ℕ). right (getD (now (part .entry)) k (pos 0))) ⌝ }
+    ensures { λ r. ⌜ r ≡ everyBelow (length (now (part .entry))) (λ (k : ℕ). right (getD (now (part .entry)) k theMark)) ⌝ }
 {
     let mut ok = true;
     for k in 0..part.len() {
@@ -46,7 +46,7 @@ pub fn all_right(part: &[i32]) -> bool
 
 // Nothing stands in the part from place `from` on.
 fn blank_from(part: &[i32], from: usize) -> bool
-    ensures { λ r. ⌜ r ≡ everyBelow (length (now (part .entry))) (λ (k : ℕ). k <? from || blank (getD (now (part .entry)) k (pos 0))) ⌝ }
+    ensures { λ r. ⌜ r ≡ everyBelow (length (now (part .entry))) (λ (k : ℕ). k <? from || blank (getD (now (part .entry)) k theMark)) ⌝ }
 {
     let mut ok = true;
     for k in 0..part.len() {

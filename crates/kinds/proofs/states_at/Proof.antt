@@ -1,13 +1,13 @@
--- Each side's place by `states`.
-use borrow.Author.Needs.{needs}
-use borrow.Author.Needs.{sfits-of}
+-- Each side's place by `states`; inside the table the machine's default is not asked for.
+use borrow.Author.Needs.{needs, sfits-of}
 use mathlib.Core.Bool.{Bool, _&&_, _||_}
-use mathlib.Core.Path.{_≡_, ap₂, _∙_}
+use mathlib.Core.Path.{_≡_, ap, ap₂, _∙_}
 use denote.Ref.{now}
 use lib.IntN.{pos}
 use lib.ListN.{getD}
 use mir.Facts.{toZ-ofZ}
-use Rattle.meaning.specs.Ledgers.{contracts, stands}
+use Rattle.laws.proofs.Lists.{getD-inside}
+use Rattle.meaning.specs.Ledgers.{contracts, theMark, stands}
 use Rattle.kinds.specs.Kinds.{placeOf, statesPlace}
 use Rattle.kinds.proofs.states_at.Statement.{statement}
 use Rattle.kinds.proofs.states_at.Tie as tie
@@ -47,10 +47,11 @@ unfolding statesPlace
 returns c =
     let a = c .before .before .before .before .args in
     let i = placeOf (a .days) (a .s) (a .d) (a .p) in
-    let e1 : c .before .before .states .result ≡ stands contracts (getD (now (a .side1)) i (pos 0)) =
-    c .before .before .states .ensures ∙ rw (toZ-ofZ (sfits-of (c .before .before .before .states-arg .given))) in
-    let e2 : c .states2 .result ≡ stands contracts (getD (now (a .side2)) i (pos 0)) =
-    c .states2 .ensures ∙ rw (toZ-ofZ (sfits-of (c .before .states-arg2 .given))) in
+    let inside = c .before .before .before .before .pre in
+    let e1 : c .before .before .states .result ≡ stands contracts (getD (now (a .side1)) i theMark) =
+    c .before .before .states .ensures ∙ rw (toZ-ofZ (sfits-of (c .before .before .before .states-arg .given))) (ap (stands contracts) (getD-inside (now (a .side1)) i (pos 0) theMark (inside .in1))) in
+    let e2 : c .states2 .result ≡ stands contracts (getD (now (a .side2)) i theMark) =
+    c .states2 .ensures ∙ rw (toZ-ofZ (sfits-of (c .before .states-arg2 .given))) (ap (stands contracts) (getD-inside (now (a .side2)) i (pos 0) theMark (inside .in2))) in
     ap₂ (λ (x y : Bool). (a .w1 && x) || (a .w2 && y)) e1 e2
 
 pub states-at-spec : {M : Type 1} → statement M

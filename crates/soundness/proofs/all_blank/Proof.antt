@@ -1,7 +1,7 @@
 -- After k turns the flag says that the first k places are blank.
 use borrow.Author.Needs.{needs, sfits-of}
 use mathlib.Core.Bool.{_&&_}
-use mathlib.Core.Path.{_≡_, refl, sym, ap₂, _∙_}
+use mathlib.Core.Path.{_≡_, refl, sym, ap, ap₂, _∙_}
 use Prim.Native.Nat.{ℕ, _-_, _≤_}
 use native.Mathlib.Omega.{arith}
 use denote.Ref.{now}
@@ -14,6 +14,7 @@ use Rattle.words.specs.Below.{everyBelow}
 use Rattle.words.specs.Tests.{sameℤ}
 use Rattle.laws.proofs.Below.{every-none, every-more}
 use Rattle.laws.proofs.Cases.{not-not}
+use Rattle.laws.proofs.Lists.{getD-inside}
 use Rattle.laws.proofs.Machine.{eqb-least}
 use Rattle.meaning.specs.Ledgers.{theMark}
 use Rattle.soundness.specs.Parts.{blank}
@@ -21,7 +22,7 @@ use Rattle.soundness.proofs.all_blank.Statement.{statement}
 use Rattle.soundness.proofs.all_blank.Tie as tie
 
 abbrev Inv-loop : tie.InvT-loop
-Inv-loop part ok₀ k₀ k-end ok k = (k-end ≡ length part) × (k ≤ length part) × (ok ≡ everyBelow k (λ (j : ℕ). blank (getD part j (pos 0))))
+Inv-loop part ok₀ k₀ k-end ok k = (k-end ≡ length part) × (k ≤ length part) × (ok ≡ everyBelow k (λ (j : ℕ). blank (getD part j theMark)))
 
 abbrev μ-loop : tie.MeasureT-loop
 μ-loop part ok₀ k₀ k-end ok k = length part - k
@@ -46,8 +47,9 @@ loop-again c =
     let l = c .before .before .loop in
     let xs = now (c .before .before .before .args .part) in
     let v = getD xs (l .k) (pos 0) in
-    let e : eqb (ofZ w32 v) 2147483648 ≡ blank v = eqb-least v (sfits-of (c .ok .given)) ∙ sym (not-not (sameℤ v theMark)) in
-    (l .inv .0, omega arith, ap₂ _&&_ (l .inv .2) e ∙ sym (every-more (l .k) (λ (j : ℕ). blank (getD xs j (pos 0)))))
+    let e : eqb (ofZ w32 v) 2147483648 ≡ blank (getD xs (l .k) theMark) =
+    eqb-least v (sfits-of (c .ok .given)) ∙ sym (not-not (sameℤ v theMark)) ∙ ap blank (getD-inside xs (l .k) (pos 0) theMark (omega arith)) in
+    (l .inv .0, omega arith, ap₂ _&&_ (l .inv .2) e ∙ sym (every-more (l .k) (λ (j : ℕ). blank (getD xs j theMark))))
 
 returns : tie.Need-returns Inv-loop μ-loop
 returns c =

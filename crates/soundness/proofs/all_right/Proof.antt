@@ -1,7 +1,7 @@
 -- After k turns the flag says that the first k places are right.
 use borrow.Author.Needs.{needs, sfits-of}
 use mathlib.Core.Bool.{_&&_}
-use mathlib.Core.Path.{_≡_, refl, sym, ap₂, _∙_}
+use mathlib.Core.Path.{_≡_, refl, sym, ap, ap₂, _∙_}
 use Prim.Native.Nat.{ℕ, _-_, _≤_}
 use native.Mathlib.Omega.{arith}
 use denote.Ref.{now}
@@ -10,12 +10,14 @@ use lib.ListN.{length, getD}
 use mir.Facts.{toZ-ofZ}
 use Rattle.words.specs.Below.{everyBelow}
 use Rattle.laws.proofs.Below.{every-none, every-more}
+use Rattle.laws.proofs.Lists.{getD-inside}
+use Rattle.meaning.specs.Ledgers.{theMark}
 use Rattle.soundness.specs.Parts.{right}
 use Rattle.soundness.proofs.all_right.Statement.{statement}
 use Rattle.soundness.proofs.all_right.Tie as tie
 
 abbrev Inv-loop : tie.InvT-loop
-Inv-loop part ok₀ k₀ k-end ok k = (k-end ≡ length part) × (k ≤ length part) × (ok ≡ everyBelow k (λ (j : ℕ). right (getD part j (pos 0))))
+Inv-loop part ok₀ k₀ k-end ok k = (k-end ≡ length part) × (k ≤ length part) × (ok ≡ everyBelow k (λ (j : ℕ). right (getD part j theMark)))
 
 abbrev μ-loop : tie.MeasureT-loop
 μ-loop part ok₀ k₀ k-end ok k = length part - k
@@ -42,8 +44,9 @@ loop-again : tie.Need-loop-again Inv-loop μ-loop
 loop-again c =
     let l = c .before .before .before .loop in
     let xs = now (c .before .before .before .before .args .part) in
-    let e : c .is-right .result ≡ right (getD xs (l .k) (pos 0)) = c .is-right .ensures ∙ rw (toZ-ofZ (sfits-of (c .before .v .given))) in
-    (l .inv .0, omega arith, ap₂ _&&_ (l .inv .2) e ∙ sym (every-more (l .k) (λ (j : ℕ). right (getD xs j (pos 0)))))
+    let e : c .is-right .result ≡ right (getD xs (l .k) theMark) =
+    c .is-right .ensures ∙ rw (toZ-ofZ (sfits-of (c .before .v .given))) (ap right (getD-inside xs (l .k) (pos 0) theMark (omega arith))) in
+    (l .inv .0, omega arith, ap₂ _&&_ (l .inv .2) e ∙ sym (every-more (l .k) (λ (j : ℕ). right (getD xs j theMark))))
 
 returns : tie.Need-returns Inv-loop μ-loop
 returns c =

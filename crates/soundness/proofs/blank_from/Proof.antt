@@ -14,6 +14,7 @@ use Rattle.words.specs.Below.{everyBelow}
 use Rattle.words.specs.Tests.{sameℤ}
 use Rattle.laws.proofs.Below.{every-none, every-more}
 use Rattle.laws.proofs.Cases.{not-not}
+use Rattle.laws.proofs.Lists.{getD-inside}
 use Rattle.laws.proofs.Machine.{eqb-least}
 use Rattle.meaning.specs.Ledgers.{theMark}
 use Rattle.soundness.specs.Parts.{blank}
@@ -21,7 +22,7 @@ use Rattle.soundness.proofs.blank_from.Statement.{statement}
 use Rattle.soundness.proofs.blank_from.Tie as tie
 
 abbrev Inv-loop : tie.InvT-loop
-Inv-loop part from ok₀ k₀ k-end ok k = (k-end ≡ length part) × (k ≤ length part) × (ok ≡ everyBelow k (λ (j : ℕ). ltb j from || blank (getD part j (pos 0))))
+Inv-loop part from ok₀ k₀ k-end ok k = (k-end ≡ length part) × (k ≤ length part) × (ok ≡ everyBelow k (λ (j : ℕ). ltb j from || blank (getD part j theMark)))
 
 abbrev μ-loop : tie.MeasureT-loop
 μ-loop part from ok₀ k₀ k-end ok k = length part - k
@@ -47,8 +48,9 @@ loop-again c =
     let l = c .before .before .loop in
     let xs = now (a .part) in
     let v = getD xs (l .k) (pos 0) in
-    let f : ℕ → Bool = λ j. ltb j (a .from) || blank (getD xs j (pos 0)) in
-    let e : eqb (ofZ w32 v) 2147483648 ≡ blank v = eqb-least v (sfits-of (c .v .given)) ∙ sym (not-not (sameℤ v theMark)) in
+    let f : ℕ → Bool = λ j. ltb j (a .from) || blank (getD xs j theMark) in
+    let e : eqb (ofZ w32 v) 2147483648 ≡ blank (getD xs (l .k) theMark) =
+    eqb-least v (sfits-of (c .v .given)) ∙ sym (not-not (sameℤ v theMark)) ∙ ap blank (getD-inside xs (l .k) (pos 0) theMark (omega arith)) in
     (l .inv .0, omega arith, ap₂ _&&_ (l .inv .2) (ap (λ (b : Bool). ltb (l .k) (a .from) || b) e) ∙ sym (every-more (l .k) f))
 
 returns : tie.Need-returns Inv-loop μ-loop

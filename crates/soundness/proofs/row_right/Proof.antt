@@ -7,8 +7,8 @@ use Prim.Native.Nat.{_+_, _-_}
 use native.Mathlib.Omega.{arith}
 use denote.Ref.{now}
 use lib.Dec.{leb, ltb}
-use lib.IntN.{pos}
 use Rattle.laws.proofs.Cases.{and-left, and-right}
+use Rattle.meaning.specs.Ledgers.{theMark}
 use Rattle.soundness.specs.Parts.{blank, right}
 use Rattle.soundness.proofs.Runs.{part-every, part-every-at}
 use Rattle.soundness.proofs.Tables.{row-held, row-blank}
@@ -64,10 +64,10 @@ returns c =
     let test = c .before .before .before .before .if1 .taken in
     let held = and-left (a .held) (leb 46 (a .periods)) test in
     let long = leb-true 46 (a .periods) (and-right (a .held) (leb 46 (a .periods)) test) in
-    let all = c .before .before .all-right .ensures ∙ part-every right side (pos 0) (a .base) (a .base + 50) 50 refl (s .pre .1) in
+    let all = c .before .before .all-right .ensures ∙ part-every right side theMark (a .base) (a .base + 50) 50 refl (s .pre .1) in
     let ends =
     c .blank-from .ensures
-    ∙ part-every-at (λ k v. ltb k (a .periods - 46) || blank v) side (pos 0) (a .base + 46) (a .base + 50) 4 (omega arith) (s .pre .1) in
+    ∙ part-every-at (λ k v. ltb k (a .periods - 46) || blank v) side theMark (a .base + 46) (a .base + 50) 4 (omega arith) (s .pre .1) in
     rw held (ap₂ _&&_ all ends ∙ row-held side (a .base) (a .periods) long (s .pre .0 .most))
 
 mul-all-blank : tie.Need-mul-all-blank
@@ -90,7 +90,7 @@ returns-2 c =
     let s = c .before .before .before in
     let a = s .args in
     c .all-blank .ensures
-    ∙ part-every blank (now (a .side)) (pos 0) (a .base) (a .base + 50) 50 refl (s .pre .1)
+    ∙ part-every blank (now (a .side)) theMark (a .base) (a .base + 50) 50 refl (s .pre .1)
     ∙ row-blank (now (a .side)) (a .base) (a .periods) (a .held) (s .pre .0) (c .before .before .if1 .left)
 
 pub row-right-spec : {M : Type 1} → statement M

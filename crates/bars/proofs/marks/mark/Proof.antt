@@ -6,12 +6,11 @@ use mathlib.Core.Path.{_≡_, sym, ap, ap₂, _∙_}
 use Prim.Native.Nat.{ℕ}
 use native.Mathlib.Omega.{arith}
 use denote.Ref.{now}
-use lib.IntN.{pos}
 use lib.ListN.{getD}
 use mir.Facts.{toZ-ofZ}
 use Rattle.words.specs.Rules.{answer}
 use Rattle.meaning.specs.Time.{days, dayOf, isPeriod}
-use Rattle.meaning.specs.Ledgers.{contracts, index, identifierOf, slotOf}
+use Rattle.meaning.specs.Ledgers.{contracts, theMark, index, identifierOf, slotOf}
 use Rattle.meaning.specs.Books as Books
 use Rattle.meaning.proofs.Clock.{is-period-on}
 use Rattle.book.specs.Structs.{timeIn}
@@ -127,7 +126,7 @@ returns-3 c =
     ∙ ap₂ (barSeen (f .is-first .result))
     (toZ-ofZ (sfits-of (v .volume-at .ok)) ∙ v .volume-at .ensures)
     (toZ-ofZ (sfits-of (w .volume-at2 .ok)) ∙ w .volume-at2 .ensures)
-    ∙ ap (λ (t : Bool). barSeen t (getD (now (a .side1)) (r .index-of .result) (pos 0)) (getD (now (a .side2)) (r .index-of .result) (pos 0))) (f .is-first .ensures)
+    ∙ ap (λ (t : Bool). barSeen t (getD (now (a .side1)) (r .index-of .result) theMark) (getD (now (a .side2)) (r .index-of .result) theMark)) (f .is-first .ensures)
     ∙ mark-at (a .b) (now (a .held)) (now (a .side1)) (now (a .side2)) (a .originator) (a .reference) (a .account) (a .day) (a .period) (omega arith)
     (r .index-of .result) (placed r) (sym done))
 

@@ -9,7 +9,9 @@ use lib.ListN.{getD}
 use lib.Signed.{natAbs-le}
 use mir.Syntax.{w32, w64}
 use borrow.Author.Tests.{not-true, not-false}
+use Rattle.laws.proofs.Lists.{getD-inside}
 use Rattle.laws.proofs.Machine.{back}
+use Rattle.meaning.specs.Ledgers.{theMark}
 use Rattle.meaning.specs.Totals.{matches, seenBy}
 use Rattle.meaning.proofs.Counted.{seen-le}
 use Rattle.setups.specs.Structs.{rowOf}
@@ -35,15 +37,22 @@ is-matched-requires c κs = search needs
 -- the volumes at the place
 module _ (s : tie.Start) where
   abbrev first : ℤ
-  first = getD (now (s .args .side1)) (s .args .place) (pos 0)
+  first = getD (now (s .args .side1)) (s .args .place) theMark
 
   abbrev second : ℤ
-  second = getD (now (s .args .side2)) (s .args .place) (pos 0)
+  second = getD (now (s .args .side2)) (s .args .place) theMark
+
+  -- as the machine reads them; inside the tables its default is not asked for
+  read1 : getD (now (s .args .side1)) (s .args .place) (pos 0) ≡ first
+  read1 = getD-inside (now (s .args .side1)) (s .args .place) (pos 0) theMark (s .pre .0)
+
+  read2 : getD (now (s .args .side2)) (s .args .place) (pos 0) ≡ second
+  read2 = getD-inside (now (s .args .side2)) (s .args .place) (pos 0) theMark (s .pre .1)
 
 matched : (c : tie.After-is-matched) → let s = c .before .before .before in c .is-matched .result ≡ matches (first s) (second s)
 matched c =
     c .is-matched .ensures
-    ∙ (let s = c .before .before .before in ap₂ matches (back w32 (first s) (c .before .before .v .given)) (back w32 (second s) (c .before .w .given)))
+    ∙ (let s = c .before .before .before in ap₂ matches (back w32 _ (c .before .before .v .given) ∙ read1 s) (back w32 _ (c .before .w .given) ∙ read2 s))
 
 returns : tie.Need-returns
 unfolding countedAt
@@ -66,9 +75,9 @@ returns-2 c =
     let fits = p .before .before .v .given in
     let r = c .seen-by .result in
     let e : matches (first s) (second s) ≡ true = sym (matched p) ∙ not-false (p .is-matched .result) (c .before .if1 .left) in
-    let seen : r ≡ seenBy origin account v = c .seen-by .ensures ∙ ap (seenBy origin account) (back w32 v fits) in (
+    let seen : r ≡ seenBy origin account v = c .seen-by .ensures ∙ ap (seenBy origin account) (back w32 _ fits ∙ read1 s) in (
       back w64 r (c .seen-by .ok) ∙ seen ∙ rw e,
-      rw (back w64 r (c .seen-by .ok), seen) (omega (arith, seen-le origin v account, natAbs-le v fits)),
+      rw (back w64 r (c .seen-by .ok), seen) (omega (arith, seen-le origin v account, rw (read1 s) at (natAbs-le (getD (now (s .args .side1)) (s .args .place) (pos 0)) fits))),
     )
 
 pub counted-at-spec : {M : Type 1} → statement M
