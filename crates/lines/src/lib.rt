@@ -4,7 +4,7 @@ ghost use Prim.Native.Nat.{_+_, _%_, _≤_};
 ghost use lib.IntN.{natAbs};
 ghost use lib.ListN.{length};
 ghost use Rattle.lines.specs.Lines.{decimal, signed, field, fields, beginning, line, sheetLine, messageLine, messageLines, totalLine, endLine, setupLine};
-ghost use Rattle.lines.specs.Places.{mostBytes, hasRoom, placed, placeAfter, allPlaced, placeAfterAll, Written};
+ghost use Rattle.lines.specs.Places.{mostBytes, hasRoom, Written, Puts, PutsAll};
 
 // No line is longer, so a line is written only where so many bytes are free.
 const MOST_BYTES: usize = 64;
@@ -133,7 +133,7 @@ fn put_beginning(out: &mut [u8], at: usize, word: &[u8], numbers: &[u64]) -> usi
 // Writes a line of a word and numbers where there is room, and answers the place after it.
 fn put_line(out: &mut [u8], at: usize, word: &[u8], numbers: &[u64]) -> usize
     requires { ⌜ length (line (now word) (now numbers)) ≤ mostBytes ⌝ }
-    ensures { λ r. ⌜ (now (out .exit) ≡ placed (now (out .entry)) at (line (now (word .entry)) (now (numbers .entry)))) × (r ≡ placeAfter (length (now (out .entry))) at (line (now (word .entry)) (now (numbers .entry)))) ⌝ }
+    ensures { λ r. ⌜ Puts (line (now (word .entry)) (now (numbers .entry))) (now (out .entry)) at (now (out .exit)) r ⌝ }
 {
     if !has_room(out.len(), at) {
         return at;
@@ -144,7 +144,7 @@ fn put_line(out: &mut [u8], at: usize, word: &[u8], numbers: &[u64]) -> usize
 
 // "sheet FIRST DAYS ACCOUNTS": the first line.
 pub fn put_sheet_line(out: &mut [u8], at: usize, first: u16, days: u8, accounts: u8) -> usize
-    ensures { λ r. ⌜ (now (out .exit) ≡ placed (now (out .entry)) at (sheetLine first days accounts)) × (r ≡ placeAfter (length (now (out .entry))) at (sheetLine first days accounts)) ⌝ }
+    ensures { λ r. ⌜ Puts (sheetLine first days accounts) (now (out .entry)) at (now (out .exit)) r ⌝ }
 {
     let numbers = [first as u64, days as u64, accounts as u64];
     put_line(out, at, b"sheet", &numbers)
@@ -152,7 +152,7 @@ pub fn put_sheet_line(out: &mut [u8], at: usize, first: u16, days: u8, accounts:
 
 // "m NUMBER ANSWER": a message's number, which counts from 1, and its answer.
 pub fn put_message_line(out: &mut [u8], at: usize, number: u64, answer: u8) -> usize
-    ensures { λ r. ⌜ (now (out .exit) ≡ placed (now (out .entry)) at (messageLine number answer)) × (r ≡ placeAfter (length (now (out .entry))) at (messageLine number answer)) ⌝ }
+    ensures { λ r. ⌜ Puts (messageLine number answer) (now (out .entry)) at (now (out .exit)) r ⌝ }
 {
     let numbers = [number, answer as u64];
     put_line(out, at, b"m", &numbers)
@@ -160,7 +160,7 @@ pub fn put_message_line(out: &mut [u8], at: usize, number: u64, answer: u8) -> u
 
 // The lines of messages one after the other, the first of which has this number, as long as there is room.
 pub fn put_message_lines(out: &mut [u8], at: usize, first: u64, answers: &[u8]) -> usize
-    ensures { λ r. ⌜ (now (out .exit) ≡ allPlaced (now (out .entry)) at (messageLines first (now (answers .entry)))) × (r ≡ placeAfterAll (length (now (out .entry))) at (messageLines first (now (answers .entry)))) ⌝ }
+    ensures { λ r. ⌜ PutsAll (messageLines first (now (answers .entry))) (now (out .entry)) at (now (out .exit)) r ⌝ }
 {
     let mut place = at;
     let mut number = first;
@@ -182,7 +182,7 @@ pub fn put_total_line(
     period: u8,
     kwh: i64,
 ) -> usize
-    ensures { λ r. ⌜ (now (out .exit) ≡ placed (now (out .entry)) at (totalLine account day period kwh)) × (r ≡ placeAfter (length (now (out .entry))) at (totalLine account day period kwh)) ⌝ }
+    ensures { λ r. ⌜ Puts (totalLine account day period kwh) (now (out .entry)) at (now (out .exit)) r ⌝ }
 {
     if !has_room(out.len(), at) {
         return at;
@@ -195,7 +195,7 @@ pub fn put_total_line(
 
 // "end COUNT": the messages seen.
 pub fn put_end_line(out: &mut [u8], at: usize, count: u64) -> usize
-    ensures { λ r. ⌜ (now (out .exit) ≡ placed (now (out .entry)) at (endLine count)) × (r ≡ placeAfter (length (now (out .entry))) at (endLine count)) ⌝ }
+    ensures { λ r. ⌜ Puts (endLine count) (now (out .entry)) at (now (out .exit)) r ⌝ }
 {
     let numbers = [count];
     put_line(out, at, b"end", &numbers)
@@ -203,7 +203,7 @@ pub fn put_end_line(out: &mut [u8], at: usize, count: u64) -> usize
 
 // "setup NUMBER": a refused setup, and why.
 pub fn put_setup_line(out: &mut [u8], at: usize, number: u8) -> usize
-    ensures { λ r. ⌜ (now (out .exit) ≡ placed (now (out .entry)) at (setupLine number)) × (r ≡ placeAfter (length (now (out .entry))) at (setupLine number)) ⌝ }
+    ensures { λ r. ⌜ Puts (setupLine number) (now (out .entry)) at (now (out .exit)) r ⌝ }
 {
     let numbers = [number as u64];
     put_line(out, at, b"setup", &numbers)

@@ -108,24 +108,14 @@ fn print_messages(
     progress
 }
 
-// The totals of an account, rising by day and period.
-fn print_account(b: Book, held: &[u32], side1: &[i32], side2: &[i32], account: u8, out: &mut [u8]) {
-    let s = b.setup;
-    let mut d: u8 = 0;
-    while d < s.days {
-        let day = totals::day_number(s.first, d);
-        let written = totals::put_day(b, held, side1, side2, account, day, out);
-        print(out, written);
-        d += 1;
-    }
-}
-
+// The totals, rising by account, day and period.
 fn print_totals(b: Book, held: &[u32], side1: &[i32], side2: &[i32], out: &mut [u8]) {
-    let s = b.setup;
-    let mut account: u8 = 0;
-    while account < s.accounts {
-        print_account(b, held, side1, side2, account, out);
-        account += 1;
+    let all = totals::account_days(b);
+    let mut k: u16 = 0;
+    while k < all {
+        let written = totals::put_account_day(b, held, side1, side2, k, out);
+        print(out, written);
+        k += 1;
     }
 }
 

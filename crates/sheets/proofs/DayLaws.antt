@@ -26,7 +26,7 @@ use Rattle.sheets.specs.Parts.{kwhLines}
 module _ (b : Book contracts) (account D : ℕ) where
   -- ---- when a total is zero because it is refused
 
-  unsound-zero : (period : ℕ) → sound b ≡ false → total b account D period ≡ pos 0
+  pub unsound-zero : (period : ℕ) → sound b ≡ false → total b account D period ≡ pos 0
   unfolding total totalRules answer
   unsound-zero period s = rw s
 

@@ -2,6 +2,7 @@
 pub mod Answers
 pub mod LineLaws
 pub mod DayLaws
+pub mod AccountDays
 pub mod TurnLaws
 pub mod FirstLaws
 pub mod KeptLaws

@@ -35,7 +35,7 @@ all-placed-length out at (x ∷ xs) = all-placed-length (placed out at x) (place
 
 -- ---- lines of one thing after the other
 
-join-on : {A : Type 0} (xs : List (List A)) (y : List A) → join (xs ++ (y ∷ [])) ≡ join xs ++ y
+pub join-on : {A : Type 0} (xs : List (List A)) (y : List A) → join (xs ++ (y ∷ [])) ≡ join xs ++ y
 unfolding join
 join-on [] y = append-nil y
 join-on (x ∷ xs) y = ap (λ (l : List _). x ++ l) (join-on xs y) ∙ sym (append-assoc x (join xs) y)

@@ -1,10 +1,14 @@
 -- What the parts of the sheet program give: numbers beside the lines that they write.
 use mathlib.Core.Bool.{Bool}
-use mathlib.Core.List.{List}
-use Prim.Native.Nat.{ℕ, suc}
+use mathlib.Core.List.{List, []}
+use Prim.Native.Nat.{ℕ, suc, _*_, _/_, _%_}
 use lib.IntN.{ℤ, pos}
 use lib.ListN.{length, getD, take, drop}
+use Rattle.words.specs.Tests.{if_then_else_, _<?_}
 use Rattle.words.specs.Lists.{build, join}
+use Rattle.meaning.specs.Time.{days, dayNumber}
+use Rattle.meaning.specs.Ledgers.{contracts}
+use Rattle.meaning.specs.Books as Meaning
 use Rattle.meaning.specs.Books.{Setup}
 use Rattle.meaning.specs.PackedMessages.{Reading}
 use Rattle.meaning.specs.PackedCalls.{Run}
@@ -12,7 +16,7 @@ use Rattle.book.specs.declared.Book.{Book}
 use Rattle.book.specs.Answers.{openedPacked}
 use Rattle.calls.specs.Answers.{bookAt}
 use Rattle.lines.specs.Places.{placeAfter, placeAfterAll}
-use Rattle.printing.specs.Sheet.{periodLines}
+use Rattle.printing.specs.Sheet.{periodLines, dayLines}
 use Rattle.printing.specs.Turns.{firstLine, toldCount, told, goes, toldLines, seenAfter}
 use Rattle.sheets.specs.declared.Begun.{Begun}
 use Rattle.sheets.specs.declared.Turned.{Turned}
@@ -37,6 +41,15 @@ turnedOf b seen ended size room run =
 
 unfoldable pub kwhLines : ℕ → ℕ → List ℤ → List (List ℕ)
 kwhLines account day kwhs = join (build (length kwhs) (λ (p : ℕ). periodLines account day (suc p) (getD kwhs p (pos 0))))
+
+-- ---- the accounts' days one after the other: account 0 on each day, then account 1
+
+unfoldable pub accountDays : Meaning.Book contracts → ℕ
+accountDays b = b .accounts * days (b .time)
+
+unfoldable pub accountDayLines : Meaning.Book contracts → ℕ → List (List ℕ)
+accountDayLines b k =
+    if k <? accountDays b then dayLines b (k / days (b .time)) (dayNumber (b .time) (k % days (b .time))) else []
 
 -- ---- what is left of the bytes at hand, of which so many are used
 

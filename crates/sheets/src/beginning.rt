@@ -3,12 +3,10 @@ use crate::Begun;
 ghost use mathlib.Core.Path.{_≡_};
 ghost use Prim.Native.Nat.{_≤_};
 ghost use lib.ListN.{length};
-ghost use Rattle.meaning.specs.PackedSetups.{readSetup};
-ghost use Rattle.book.specs.Answers.{heldOpened, sideOpened};
-ghost use Rattle.lines.specs.Places.{placed, placeAfter};
+ghost use Rattle.lines.specs.Places.{Puts};
 ghost use Rattle.printing.specs.Sheet.{lentFor};
-ghost use Rattle.printing.specs.Turns.{lineFor, firstLine};
-ghost use Rattle.sheets.specs.Parts.{begunOf};
+ghost use Rattle.printing.specs.Turns.{lineFor};
+ghost use Rattle.sheets.specs.Promises.{Begins};
 
 pub const SLOTS: usize = 16;
 
@@ -26,7 +24,7 @@ pub fn lent_for(bytes: &[u8]) -> usize
 
 // The first line: "sheet" where nothing refuses the setup, else "setup" and the number.
 fn put_first_line(out: &mut [u8], answer: u8, first: u16, days: u8, accounts: u8) -> usize
-    ensures { λ r. ⌜ (now (out .exit) ≡ placed (now (out .entry)) 0 (lineFor answer first days accounts)) × (r ≡ placeAfter (length (now (out .entry))) 0 (lineFor answer first days accounts)) ⌝ }
+    ensures { λ r. ⌜ Puts (lineFor answer first days accounts) (now (out .entry)) 0 (now (out .exit)) r ⌝ }
 {
     if answer != 0 {
         return lines::put_setup_line(out, 0, answer);
@@ -42,9 +40,7 @@ pub fn begin(
     side2: &mut [i32],
     out: &mut [u8],
 ) -> Begun
-    ensures { λ r. do
-      let read = readSetup (now (bytes .entry)) (length (now (held .entry))) (length (now (side1 .entry))) (length (now (side2 .entry)))
-      ⌜ (r ≡ begunOf (length (now (out .entry))) read) × (now (held .exit) ≡ heldOpened (read .answer) (now (held .entry))) × (now (side1 .exit) ≡ sideOpened (read .answer) (now (side1 .entry))) × (now (side2 .exit) ≡ sideOpened (read .answer) (now (side2 .entry))) × (now (out .exit) ≡ placed (now (out .entry)) 0 (firstLine read)) ⌝ }
+    ensures { λ r. ⌜ Begins (now (bytes .entry)) (now (held .entry)) (now (side1 .entry)) (now (side2 .entry)) (now (out .entry)) r (now (held .exit)) (now (side1 .exit)) (now (side2 .exit)) (now (out .exit)) ⌝ }
 {
     let done = book::opening::open_packed(bytes, held, side1, side2);
     let b = done.book;

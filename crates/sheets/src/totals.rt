@@ -1,25 +1,16 @@
-// The lines of an account's day: "non-zero totals only", rising by period.
+// The lines of the accounts' days: "non-zero totals only", rising by account, day and period.
 ghost use mathlib.Core.Path.{_≡_};
-ghost use Prim.Native.Nat.{_+_, _%_, _≤_};
+ghost use Prim.Native.Nat.{_*_, _≤_};
 ghost use lib.ListN.{length};
 ghost use Rattle.book.specs.Structs.{bookOf};
-ghost use Rattle.lines.specs.Places.{allPlaced, placeAfterAll};
+ghost use Rattle.lines.specs.Places.{PutsAll};
 ghost use Rattle.printing.specs.Sheet.{periodLines, dayLines};
 ghost use Rattle.sheets.specs.Parts.{kwhLines};
-
-// How many numbers a day's number of 16 bits can have.
-const DAY_NUMBERS: u32 = 65536;
-
-// The number of the day at place d of a book whose first day has this number. No sound book reaches the end of the numbers, where it wraps.
-pub fn day_number(first: u16, d: u8) -> u16
-    ensures { λ r. ⌜ r ≡ (first + d) % 65536 ⌝ }
-{
-    ((first as u32 + d as u32) % DAY_NUMBERS) as u16
-}
+ghost use Rattle.sheets.specs.Promises.{PutsAccountDay};
 
 // A line for a total that is not zero, and the place after it.
 fn put_total(out: &mut [u8], at: usize, account: u8, day: u16, period: u8, kwh: i64) -> usize
-    ensures { λ r. ⌜ (now (out .exit) ≡ allPlaced (now (out .entry)) at (periodLines account day period kwh)) × (r ≡ placeAfterAll (length (now (out .entry))) at (periodLines account day period kwh)) ⌝ }
+    ensures { λ r. ⌜ PutsAll (periodLines account day period kwh) (now (out .entry)) at (now (out .exit)) r ⌝ }
 {
     if kwh == 0 {
         return at;
@@ -30,7 +21,7 @@ fn put_total(out: &mut [u8], at: usize, account: u8, day: u16, period: u8, kwh: 
 // A line for each of a day's totals that is not zero, the first of which is that of period 1.
 fn put_totals(out: &mut [u8], account: u8, day: u16, kwh: &[i64]) -> usize
     requires { ⌜ length (now kwh) ≤ 50 ⌝ }
-    ensures { λ r. ⌜ (now (out .exit) ≡ allPlaced (now (out .entry)) 0 (kwhLines account day (now (kwh .entry)))) × (r ≡ placeAfterAll (length (now (out .entry))) 0 (kwhLines account day (now (kwh .entry)))) ⌝ }
+    ensures { λ r. ⌜ PutsAll (kwhLines account day (now (kwh .entry))) (now (out .entry)) 0 (now (out .exit)) r ⌝ }
 {
     let mut place: usize = 0;
     let mut p: usize = 0;
@@ -42,7 +33,7 @@ fn put_totals(out: &mut [u8], account: u8, day: u16, kwh: &[i64]) -> usize
 }
 
 // The lines of an account's day, from the front of the buffer on, and the place after them. A question that is refused leaves the totals zero.
-pub fn put_day(
+fn put_day(
     b: book::Book,
     held: &[u32],
     side1: &[i32],
@@ -53,9 +44,39 @@ pub fn put_day(
 ) -> usize
     ensures { λ r. do
       let whole = bookOf b (now (held .entry)) (now (side1 .entry)) (now (side2 .entry))
-      ⌜ (now (out .exit) ≡ allPlaced (now (out .entry)) 0 (dayLines whole account day)) × (r ≡ placeAfterAll (length (now (out .entry))) 0 (dayLines whole account day)) ⌝ }
+      ⌜ PutsAll (dayLines whole account day) (now (out .entry)) 0 (now (out .exit)) r ⌝ }
 {
     let mut kwh = [0i64; ledger::PLACES_A_DAY];
     position::totals::day_totals(b, held, side1, side2, account, day, &mut kwh);
     put_totals(out, account, day, &kwh)
+}
+
+// How many accounts' days there are: every account has every day.
+pub fn account_days(b: book::Book) -> u16
+    ensures { λ r. ⌜ r ≡ b .setup .accounts * b .setup .days ⌝ }
+{
+    let s = b.setup;
+    s.accounts as u16 * s.days as u16
+}
+
+// The lines of the k-th account's day, from the front of the buffer on, and the place after them: account 0 on each day comes first, then account 1.
+// No sound book reaches the end of the day numbers, where the sum wraps.
+pub fn put_account_day(
+    b: book::Book,
+    held: &[u32],
+    side1: &[i32],
+    side2: &[i32],
+    k: u16,
+    out: &mut [u8],
+) -> usize
+    ensures { λ r. ⌜ PutsAccountDay b (now (held .entry)) (now (side1 .entry)) (now (side2 .entry)) k (now (out .entry)) (now (out .exit)) r ⌝ }
+{
+    if account_days(b) <= k {
+        return 0;
+    }
+    let s = b.setup;
+    let days = s.days as u16;
+    let account = (k / days) as u8;
+    let day = std::num::wrapping_add_u16(s.first, k % days);
+    put_day(b, held, side1, side2, account, day, out)
 }

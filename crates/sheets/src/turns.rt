@@ -1,13 +1,8 @@
 // A turn of the program: the messages at hand, done to the book, and their lines.
 use crate::Turned;
 ghost use mathlib.Core.Path.{_≡_};
-ghost use lib.ListN.{length};
-ghost use lib.Seq.{sets};
-ghost use Rattle.meaning.specs.PackedCalls.{runOn};
-ghost use Rattle.book.specs.Structs.{bookOf};
-ghost use Rattle.lines.specs.Places.{allPlaced};
-ghost use Rattle.printing.specs.Turns.{lastIn, waitsFor, countTold, told, toldLines};
-ghost use Rattle.sheets.specs.Parts.{turnedOf};
+ghost use Rattle.printing.specs.Turns.{lastIn, waitsFor, countTold};
+ghost use Rattle.sheets.specs.Promises.{Turns};
 
 // The answer of a message whose bytes end too soon.
 const BYTES_END_TOO_SOON: u8 = 19;
@@ -57,9 +52,7 @@ pub fn turn(
     answers: &mut [u8],
     out: &mut [u8],
 ) -> Turned
-    ensures { λ r. do
-      let run = runOn (length (now (answers .entry))) (bookOf b (now (held .entry)) (now (side1 .entry)) (now (side2 .entry))) (now (bytes .entry))
-      ⌜ (r ≡ turnedOf b seen ended (length (now (bytes .entry))) (length (now (out .entry))) run) × (now (held .exit) ≡ run .book .ledger .held) × (now (side1 .exit) ≡ run .book .ledger .side1) × (now (side2 .exit) ≡ run .book .ledger .side2) × (now (answers .exit) ≡ sets (now (answers .entry)) 0 (run .answers)) × (now (out .exit) ≡ allPlaced (now (out .entry)) 0 (toldLines seen (told ended (length (now (bytes .entry))) run))) ⌝ }
+    ensures { λ r. ⌜ Turns b seen (now (bytes .entry)) ended (now (held .entry)) (now (side1 .entry)) (now (side2 .entry)) (now (answers .entry)) (now (out .entry)) r (now (held .exit)) (now (side1 .exit)) (now (side2 .exit)) (now (answers .exit)) (now (out .exit)) ⌝ }
 {
     let size = bytes.len();
     let ran = calls::packed::apply_all(b, bytes, held, side1, side2, answers);

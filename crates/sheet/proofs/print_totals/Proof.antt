@@ -1,4 +1,4 @@
--- Nothing has to hold from account to account but the length of the buffer.
+-- Nothing has to hold from day to day but the length of the buffer.
 use borrow.Author.Needs.{needs}
 use mathlib.Core.Path.{_≡_, refl, _∙_}
 use Prim.Native.Nat.{_-_}
@@ -7,28 +7,34 @@ use Rattle.sheet.proofs.print_totals.Statement.{statement}
 use Rattle.sheet.proofs.print_totals.Tie as tie
 
 abbrev Inv-loop : tie.InvT-loop
-Inv-loop b held side1 side2 out₀ s account₀ out account = length out ≡ length out₀
+Inv-loop b held side1 side2 out₀ all k₀ out k = length out ≡ length out₀
 
 abbrev μ-loop : tie.MeasureT-loop
-μ-loop b held side1 side2 out₀ s account₀ out account = s .accounts - account
+μ-loop b held side1 side2 out₀ all k₀ out k = all - k
+
+account-days-requires : tie.Need-account-days-requires Inv-loop μ-loop
+account-days-requires c κs = search needs
 
 loop-holds : tie.Need-loop-holds Inv-loop μ-loop
 loop-holds c = refl
 
-print-account-requires : tie.Need-print-account-requires Inv-loop μ-loop
-print-account-requires c κs = search needs
+put-account-day-requires : tie.Need-put-account-day-requires Inv-loop μ-loop
+put-account-day-requires c κs = search needs
 
-add-account : tie.Need-add-account Inv-loop μ-loop
-add-account c = search needs
+print-requires : tie.Need-print-requires Inv-loop μ-loop
+print-requires c κs = search needs
+
+add-k : tie.Need-add-k Inv-loop μ-loop
+add-k c = search needs
 
 loop-less : tie.Need-loop-less Inv-loop μ-loop
 loop-less c = search needs
 
 loop-again : tie.Need-loop-again Inv-loop μ-loop
-loop-again c = c .before .before .print-account .kept .1 .1 .1 .1 .1 .0 ∙ c .before .before .before .before .before .before .loop .inv
+loop-again c = search needs
 
 same-length : tie.Need-same-length Inv-loop μ-loop
-same-length c = c .before .before .loop .inv
+same-length c = search needs
 
 returns : tie.Need-returns Inv-loop μ-loop
 returns c = search needs
@@ -39,9 +45,11 @@ print-totals-spec =
     (tie.spec
     Inv-loop
     μ-loop
+    account-days-requires
     loop-holds
-    print-account-requires
-    add-account
+    put-account-day-requires
+    print-requires
+    add-k
     loop-less
     loop-again
     same-length
