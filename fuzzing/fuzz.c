@@ -6,6 +6,7 @@
 #include "exports.h"
 #include "lending.h"
 
+#include <errno.h>
 #include <stdlib.h>
 #include <string.h>
 #include <time.h>
@@ -17,6 +18,12 @@
 static int print_faults(void) {
     for (size_t k = 0; fault_names[k] != NULL; k++) puts(fault_names[k]);
     return 0;
+}
+
+static bool is_a_fault(const char *name) {
+    for (size_t k = 0; fault_names[k] != NULL; k++)
+        if (strcmp(fault_names[k], name) == 0) return true;
+    return strcmp(name, "none") == 0;
 }
 #endif
 
@@ -38,6 +45,10 @@ static void run_episode(void) {
 }
 
 static int finish(double seconds) {
+    if (calls == 0) {
+        printf("nothing was tried\n");
+        return 1;
+    }
     bool all = print_seen();
     printf("seed %llu: %llu calls in %llu episodes and %.0f seconds, everything held\n", (unsigned long long)seed, (unsigned long long)calls,
            (unsigned long long)episode, seconds);
@@ -47,17 +58,25 @@ static int finish(double seconds) {
     return 1;
 }
 
+static int wrong_arguments(void) {
+    fprintf(stderr, "fuzz calls|seconds|episode NUMBER SEED\n");
+    return 2;
+}
+
+/* Digits alone, and no more than 64 bits hold. */
+static bool read_number(const char *word, uint64_t *number) {
+    errno = 0;
+    *number = strtoull(word, NULL, 10);
+    return word[0] != '\0' && strspn(word, "0123456789") == strlen(word) && errno == 0;
+}
+
 int main(int argc, char **argv) {
+    uint64_t number;
 #ifdef WITH_FAULTS
-    if (argc == 2) return print_faults();
-    if (argc == 5) fault = argv[4];
+    if (argc == 2 && strcmp(argv[1], "faults") == 0) return print_faults();
+    if (argc == 5 && is_a_fault(argv[4])) fault = argv[--argc];
 #endif
-    if (argc < 4) {
-        fprintf(stderr, "fuzz calls|seconds|episode NUMBER SEED\n");
-        return 2;
-    }
-    uint64_t number = strtoull(argv[2], NULL, 10);
-    seed = strtoull(argv[3], NULL, 10);
+    if (argc != 4 || !read_number(argv[2], &number) || !read_number(argv[3], &seed)) return wrong_arguments();
     make_areas();
     watch_for_faults();
     expect_numbers();
@@ -68,8 +87,10 @@ int main(int argc, char **argv) {
         run_episode();
     } else if (strcmp(argv[1], "seconds") == 0) {
         for (; seconds_now() - start < (double)number; episode++) run_episode();
-    } else {
+    } else if (strcmp(argv[1], "calls") == 0) {
         for (; calls < number; episode++) run_episode();
+    } else {
+        return wrong_arguments();
     }
     return in_words ? 0 : finish(seconds_now() - start);
 }
