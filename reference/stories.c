@@ -3,6 +3,11 @@
  *
  *   stories SEED        writes one story, packed setup then packed messages
  *   stories SEED text   prints the same story in words
+ *   stories SEED long BYTES END [text]
+ *                       a story of so many bytes or a message more, with the
+ *                       gates far apart; at its END it is "whole", its last
+ *                       message is "cut", or one is "unreadable" and more
+ *                       bytes follow
  *
  * A story is the same for its seed on every machine: the generator is
  * splitmix64 on whole numbers, and no two draws stand in one expression
@@ -85,10 +90,10 @@ static unsigned weighted(const unsigned *weight, size_t count)
  * The story: its bytes, or its words
  * ====================================================================== */
 
-enum plan { ORDINARY, SUCCESSION, FULL, ALL_CLOSED, LONG, WILD, SETUP_REFUSED };
+enum plan { ORDINARY, SUCCESSION, FULL, ALL_CLOSED, LONG, WILD, SETUP_REFUSED, VERY_LONG };
 
 static const char *const plan_name[] = {
-    "ordinary", "succession", "full", "all-closed", "long", "wild", "setup-refused",
+    "ordinary", "succession", "full", "all-closed", "long", "wild", "setup-refused", "very-long",
 };
 
 static enum plan plan;
@@ -216,6 +221,8 @@ static unsigned choose_days_of_book(void)
         return between(2, 6);
     case LONG:
         return between(3, 8);
+    case VERY_LONG:
+        return MOST_DAYS;
     default:
         return chance(65) ? between(1, 3) : between(4, 8);
     }
@@ -330,7 +337,7 @@ static void choose_row_days(struct authorisation *row, unsigned a)
     unsigned manner = plan == SUCCESSION ? WEIGHTED(25, 12, 40, 10, 10, 3)
                                          : WEIGHTED(46, 22, 14, 9, 6, 3);
 
-    if (a == 0 && chance(85))
+    if (a == 0 && (plan == VERY_LONG || chance(85)))
         manner = 0;
     row->first_day = day_up_to_first();
     row->last_day = EVERGREEN;
@@ -1516,6 +1523,96 @@ static void tell_refused_setup(void)
 }
 
 /* ======================================================================
+ * Very long stories
+ * ====================================================================== */
+
+enum ending { WHOLE, CUT, UNREADABLE, ENDINGS };
+
+static const char *const ending_name[ENDINGS] = {"whole", "cut", "unreadable"};
+
+/* A step that closes no gate. */
+static void step_between_gates(void)
+{
+    switch (WEIGHTED(46, 24, 5, 4, 3, 4)) {
+    case 0:
+        step_notification();
+        break;
+    case 1:
+        step_echo();
+        break;
+    case 2:
+        step_nullification();
+        break;
+    case 3:
+        step_repeat();
+        break;
+    case 4:
+        step_wild();
+        break;
+    default:
+        step_withdrawal();
+        break;
+    }
+}
+
+/* To so many bytes, with a gate whenever as many bytes have gone by.  The
+ * last gate of the book stays open: after it every answer would be 2. */
+static void steps_to(size_t bytes, size_t between_gates)
+{
+    size_t next_gate = story_length + between_gates;
+
+    while (story_length < bytes) {
+        if (story_length >= next_gate && gates_left() > 1) {
+            close_gates(1);
+            next_gate += between_gates;
+        }
+        step_between_gates();
+    }
+}
+
+static void tail_unreadable(void)
+{
+    switch (below(3)) {
+    case 0:
+        tail_kind_3();
+        break;
+    case 1:
+        tail_too_many_entries();
+        break;
+    default:
+        tail_padding();
+        break;
+    }
+}
+
+static void open_the_book(void)
+{
+    add_setup();
+    if (open_book(&book, &setup, SHEET_SLOTS) != DONE) {
+        fprintf(stderr, "stories: a setup meant to be right is refused\n");
+        exit(3);
+    }
+}
+
+/* All gates of the book over the whole story, or seven. */
+static void tell_long_story(size_t bytes, enum ending ending)
+{
+    plan = VERY_LONG;
+    story_volumes = WEIGHTED(50, 20, 14, 12, 4);
+    say("story %s\n", plan_name[plan]);
+    choose_setup();
+    choose_reference_pool();
+    open_the_book();
+    steps_to(bytes, bytes / (chance(70) ? gates_left() : 8));
+    if (ending == CUT)
+        tail_cut();
+    if (ending == UNREADABLE) {
+        tail_unreadable();
+        steps_to(story_length + 20000, 20000);
+    }
+}
+
+/* ======================================================================
  * The plans
  * ====================================================================== */
 
@@ -1558,38 +1655,59 @@ static void tell_story(void)
         tell_refused_setup();
         return;
     }
-    add_setup();
-    if (open_book(&book, &setup, SHEET_SLOTS) != DONE) {
-        fprintf(stderr, "stories: a setup meant to be right is refused\n");
-        exit(3);
-    }
+    open_the_book();
     tell_messages();
     if (plan != WILD && chance(30))
         tail();
     damage_sometimes();
 }
 
-static bool read_seed(const char *word, uint64_t *seed)
+static bool read_number(const char *word, uint64_t *number)
 {
     char *end;
 
     errno = 0;
-    *seed = strtoull(word, &end, 10);
+    *number = strtoull(word, &end, 10);
     return *word >= '0' && *word <= '9' && *end == '\0' && errno == 0;
+}
+
+/* The ending of this name; ENDINGS where there is none. */
+static enum ending ending_named(const char *name)
+{
+    unsigned e = 0;
+
+    while (e < ENDINGS && strcmp(ending_name[e], name) != 0)
+        e++;
+    return (enum ending)e;
+}
+
+/* SEED, or SEED long BYTES END; false where it is neither. */
+static bool tell(int words, char **word)
+{
+    uint64_t seed;
+    uint64_t bytes;
+
+    if (words < 1 || !read_number(word[0], &seed))
+        return false;
+    random_state = seed * UINT64_C(0xd1342543de82ef95);
+    if (words == 1) {
+        tell_story();
+        return true;
+    }
+    if (words != 4 || strcmp(word[1], "long") != 0 || !read_number(word[2], &bytes)
+        || bytes < 10000 || bytes > 100000000 || ending_named(word[3]) == ENDINGS)
+        return false;
+    tell_long_story((size_t)bytes, ending_named(word[3]));
+    return true;
 }
 
 int main(int argc, char **argv)
 {
-    uint64_t seed;
-
-    if (argc < 2 || argc > 3 || !read_seed(argv[1], &seed)
-        || (argc == 3 && strcmp(argv[2], "text") != 0)) {
-        fprintf(stderr, "usage: stories SEED [text]\n");
+    in_words = argc > 2 && strcmp(argv[argc - 1], "text") == 0;
+    if (!tell(argc - 1 - in_words, argv + 1)) {
+        fprintf(stderr, "usage: stories SEED [long BYTES whole|cut|unreadable] [text]\n");
         return 2;
     }
-    in_words = argc == 3;
-    random_state = seed * UINT64_C(0xd1342543de82ef95);
-    tell_story();
     if (!in_words)
         fwrite(story, 1, story_length, stdout);
     free(story);
