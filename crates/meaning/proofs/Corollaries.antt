@@ -6,10 +6,9 @@ use mathlib.Core.Logic.{_≢_}
 use mathlib.Core.Path.{_≡_, refl, sym, ap, _∙_}
 use Prim.Native.Nat.{ℕ, suc, _+_, _≤_, _<_}
 use native.Mathlib.Omega.{arith}
-use lib.Dec.{eqb}
 use lib.ListN.{length, getD, replicate, length-replicate}
 use borrow.Author.Tests.{ne-eqb, ltb-false, le-ltb}
-use Rattle.words.specs.Lists.{any, find}
+use Rattle.words.specs.Lists.{find}
 use Rattle.words.specs.Rules.{answer}
 use Rattle.words.specs.Runs.{step}
 use Rattle.laws.proofs.Cases.{and-false, or-false}
@@ -22,6 +21,7 @@ use Rattle.meaning.specs.Messages.{notification, nullification, about, h
 use Rattle.meaning.specs.Books.{Setup, openingRules, Book, openedBook}
 use Rattle.meaning.specs.Calls.{Call, gate, message, refusal, accepted, act}
 use Rattle.meaning.specs.History.{Event, event, concerns, decides, standing, after, eventsOf}
+use Rattle.meaning.specs.FromHistory.{notifies, wasAccepted}
 use Rattle.meaning.proofs.Places.{slot-index, index-lt}
 use Rattle.meaning.proofs.Clock.{is-period-on}
 use Rattle.meaning.proofs.Sound.{Lawful, Sound}
@@ -142,12 +142,6 @@ module _ {K : Sort} where
   held-follow b calls =
       run-folds accepted act event (λ (x : Book K). x .ledger .held) (λ (held : List ℕ) (e : Event K). heldAfterCall (e .call) held) (λ x c a. act-held x c) calls b
 
-  -- the call notifies the identifier
-  abbrev pub notifies : ℕ → Call K → Bool
-  notifies i gate = false
-  notifies i (message (notification n)) = eqb i (n .identifier)
-  notifies i (message (nullification x)) = false
-
   act-holds : (b : Book K) (c : Call K) (i : ℕ) → accepted b c ≡ true → isHeld (act b c .ledger .held) i ≡ isHeld (b .ledger .held) i || notifies i c
   unfolding act written heldAfter
   act-holds b gate i a = sym (or-false (isHeld (b .ledger .held) i))
@@ -156,7 +150,7 @@ module _ {K : Sort} where
 
   -- an identifier is held exactly when a notification of it was accepted: no slot is freed
   pub held-when-accepted : (setup : Setup) (slots : ℕ) (calls : List (Call K)) (i : ℕ)
-      → isHeld (after (openedBook K setup slots) calls .ledger .held) i ≡ any (λ (e : Event K). notifies i (e .call)) (eventsOf (openedBook K setup slots) calls)
+      → isHeld (after (openedBook K setup slots) calls .ledger .held) i ≡ wasAccepted (eventsOf (openedBook K setup slots) calls) i
   unfolding after eventsOf
   held-when-accepted setup slots calls i =
       run-folds accepted act event (λ (x : Book K). isHeld (x .ledger .held) i) (λ (u : Bool) (e : Event K). u || notifies i (e .call)) (λ x c a. act-holds x c i a) calls (openedBook K setup slots)

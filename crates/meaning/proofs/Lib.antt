@@ -31,6 +31,10 @@ pub mod Totals
 pub mod Figures
 pub mod Bars
 pub mod Shown
+pub mod Filled
+pub mod HeldFromHistory
+pub mod TotalFromHistory
+pub mod BarsFromHistory
 pub mod PackedInto
 pub mod EntryValues
 pub mod MessageValues

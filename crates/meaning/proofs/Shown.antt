@@ -38,7 +38,7 @@ agreedPart (OneSide v) = pos 0
 agreedPart (Agreed v) = v
 agreedPart (Disagreed v w) = pos 0
 
-unmatched-part : (f : ℤ → ℤ) (v w : ℤ) → matches v w ≡ false → agreedPart (mapBar f (barOf v w)) ≡ pos 0
+pub unmatched-part : (f : ℤ → ℤ) (v w : ℤ) → matches v w ≡ false → agreedPart (mapBar f (barOf v w)) ≡ pos 0
 unmatched-part f v w m =
     on (stands contracts v)
     (λ p. on (stands contracts w)

@@ -10,6 +10,7 @@ pub mod Calls
 pub mod History
 pub mod Totals
 pub mod Bars
+pub mod FromHistory
 pub mod Rows
 pub mod PackedMessages
 pub mod PackedCalls
