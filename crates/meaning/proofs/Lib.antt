@@ -35,6 +35,7 @@ pub mod Filled
 pub mod HeldFromHistory
 pub mod TotalFromHistory
 pub mod BarsFromHistory
+pub mod Fourteen
 pub mod PackedInto
 pub mod EntryValues
 pub mod MessageValues
