@@ -1,4 +1,5 @@
--- Laws that the functions' proofs share, and that the promises leave no choice.
+-- Laws that the functions' proofs share, that the promises leave no choice, and that the answers are one position, which follows from the history.
 pub mod Answers
 pub mod Unique
 pub mod OnePosition
+pub mod PositionFromHistory
