@@ -12,7 +12,7 @@ ghost use Rattle.book.specs.Structs.{bookOf};
 ghost use Rattle.position.specs.Counting.{countedAt};
 
 // Where a side's table has a slot's volume on the day at place d in the period at place p, both from 0.
-pub fn place_of(slot: u8, days: u8, d: u8, p: u8) -> usize
+pub(crate) fn place_of(slot: u8, days: u8, d: u8, p: u8) -> usize
     ensures { λ r. ⌜ r ≡ index days slot d (suc p) ⌝ }
 {
     (slot as usize * days as usize + d as usize) * ledger::PLACES_A_DAY + p as usize
@@ -39,14 +39,14 @@ fn seen_by(row: setups::Authorisation, account: u8, v: i32) -> i64
 }
 
 // The account is one of the pair's two; no other sees anything of it.
-pub fn in_pair(row: setups::Authorisation, account: u8) -> bool
+pub(crate) fn in_pair(row: setups::Authorisation, account: u8) -> bool
     ensures { λ r. ⌜ r ≡ inPair (rowOf row) account ⌝ }
 {
     (account == row.account1) | (account == row.account2)
 }
 
 // What a place counts for an account, where its slot's identifier has this originating authorisation.
-pub fn counted_at(
+pub(crate) fn counted_at(
     row: setups::Authorisation,
     account: u8,
     side1: &[i32],
@@ -65,7 +65,7 @@ pub fn counted_at(
 }
 
 // The number that refuses a question of an account's day: 1, 15 or 16; 0 where none does.
-pub fn day_refusal(
+pub(crate) fn day_refusal(
     b: book::Book,
     held: &[u32],
     side1: &[i32],
