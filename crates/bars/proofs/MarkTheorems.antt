@@ -1,5 +1,5 @@
--- Rows and marks of a book by value and its lent tables: a row is empty exactly on a refusal, a refused mark is blank, no figure is negative zero,
--- and what account 1 is shown as agreed account 2 is shown as agreed, negated.
+-- Rows and marks of a book by value and its lent tables: a row is empty exactly on a refusal, a day of marks is refused exactly, a refused mark is
+-- blank, no figure is negative zero, and what account 1 is shown as agreed account 2 is shown as agreed, negated.
 use mathlib.Core.Bool.{true}
 use mathlib.Core.List.{List, []}
 use mathlib.Core.Logic.{_≢_, _↔_}
@@ -12,6 +12,7 @@ use lib.IntN.{ℤ, pos, negsuc, negℤ}
 use lib.ListN.{length, take, drop, length-take, length-drop}
 use Rattle.words.specs.Rules.{answer}
 use Rattle.laws.proofs.Cases.{on}
+use Rattle.laws.proofs.Rules.{Exactly, exactly}
 use Rattle.meaning.specs.Ledgers.{contracts, one, two}
 use Rattle.meaning.specs.Books as Meaning
 use Rattle.meaning.specs.Rows.{row}
@@ -22,7 +23,7 @@ use Rattle.meaning.proofs.Figures.{zero-positive}
 use Rattle.book.specs.declared.Book.{Book}
 use Rattle.book.specs.Structs.{bookOf}
 use Rattle.shown.specs.Figures.{barFor, noFigure, firstOf, secondOf}
-use Rattle.bars.specs.Marks.{marked}
+use Rattle.bars.specs.Marks.{marked, dayMarkRules}
 use Rattle.shown.specs.declared.Bar.{Bar}
 use Rattle.shown.specs.declared.Bar.the-variants.{Blank, OneSide, Agreed, Disagreed}
 use Rattle.bars.specs.declared.Marked.{Marked}
@@ -97,6 +98,12 @@ opposite r v (negsuc n) e q =
 module _ (b : Book) (held : List ℕ) (side1 side2 : List ℤ) (i D period : ℕ) where
   abbrev tables : Meaning.Book contracts
   tables = bookOf b held side1 side2
+
+  -- demand 2, "exactly", as for each question that document 01 names (meaning, Exactly.antt): answer k of a day of marks comes if and only if its
+  -- condition holds and no earlier one of 1, 25, 15, 16, 24 does
+  pub day-marks-exactly : (account cases firsts seconds : ℕ) → Exactly (dayMarkRules tables i account D cases firsts seconds)
+  unfolding dayMarkRules
+  day-marks-exactly account cases firsts seconds = exactly (dayMarkRules tables i account D cases firsts seconds) refl
 
   -- a refusal's "other results are .. the blank mark"
   pub refused-blank : (account : ℕ) (r : Marked) → r ≡ marked tables i account D period → r .answer ≢ 0 → r .bar ≡ Blank

@@ -1,9 +1,9 @@
--- What the answers of `position` are worth: totals balance over all accounts, a day's totals are its periods' totals, and the net figure is the
--- exact difference, converted once.
+-- What the answers of `position` are worth: totals balance over all accounts, a day of totals is refused exactly and is its periods' totals, and
+-- the net figure is the exact difference, converted once.
 use mathlib.Core.Bool.{true, false}
 use mathlib.Core.List.{List}
 use mathlib.Core.Logic.{_≢_}
-use mathlib.Core.Path.{_≡_, sym, ap, _∙_}
+use mathlib.Core.Path.{_≡_, refl, sym, ap, _∙_}
 use Prim.Native.Nat.{ℕ, suc, _≤_, _<_}
 use lib.Dec.{eqb}
 use lib.Ieee.{fin}
@@ -13,6 +13,7 @@ use borrow.Author.Tests.{eq-eqb, ne-eqb, lt-ltb, le-ltb}
 use Rattle.words.specs.Below.{sumBelowℤ}
 use Rattle.words.specs.Rules.{answer}
 use Rattle.laws.proofs.Lists.{getD-mapAt}
+use Rattle.laws.proofs.Rules.{Exactly, exactly}
 use Rattle.laws.proofs.Sums.{sum-ext}
 use Rattle.meaning.specs.Time.{dayOf}
 use Rattle.meaning.specs.Ledgers.{contracts}
@@ -47,6 +48,12 @@ module _ (b : Book) (held : List ℕ) (side1 side2 : List ℤ) where
   total-never-26 account D period r e q = never-26 before account D period (sym (ap (λ (t : Totalled). t .answer) e) ∙ q)
 
   -- ---- a day's totals
+
+  -- demand 2, "exactly", as for each question that document 01 names (meaning, Exactly.antt): answer k comes if and only if its condition holds and
+  -- no earlier one of 1, 15, 16, 24 does
+  pub day-totals-exactly : (account D room : ℕ) → Exactly (dayTotalRules before account D room)
+  unfolding dayTotalRules
+  day-totals-exactly account D room = exactly (dayTotalRules before account D room) refl
 
   module _ (account D : ℕ) (lent : List ℤ) (done : answer (dayTotalRules before account D (length lent)) ≡ 0) where
     -- each place of the day holds what `total` answers of its period, and every other place what it held
