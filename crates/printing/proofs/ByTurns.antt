@@ -1,12 +1,11 @@
 -- THE SHEET COMES OUT THE SAME, in whatever parts its input comes: the lines that the program prints by turns are the lines of all its input.
-use mathlib.Core.Bool.{Bool, true, false, _||_}
+use mathlib.Core.Bool.{Bool, true, false}
 use mathlib.Core.List.{List, [], _∷_, _++_, append-assoc, append-nil}
-use mathlib.Core.Logic.{_⊎_, ⊎-elim}
 use mathlib.Core.Path.{_≡_, refl, sym, ap, ap₂, _∙_}
 use Prim.Native.Nat.{ℕ, suc, _+_, _-_, _%_, _^_, _≤_}
 use native.Mathlib.Nat.{zero-add}
 use native.Mathlib.Omega.{arith}
-use lib.ListN.{length, take, drop, length-append}
+use lib.ListN.{length, drop, length-append}
 use lib.Seq.{take-length, drop-append-le, length-take-le}
 use borrow.Author.Tests.{eq-eqb, ne-eqb}
 use Rattle.words.specs.Tests.{_≤?_}
@@ -17,10 +16,10 @@ use Rattle.meaning.specs.Books.{Book, openedBook}
 use Rattle.meaning.specs.PackedCalls.{Run}
 use Rattle.meaning.proofs.PackedSetupRules.{setup-reading-answer, setup-reading-done, setup-readable}
 use Rattle.meaning.proofs.ReadMore.{field-stays, read-setup-more}
-use Rattle.lines.specs.Lines.{messageLine, messageLines, endLine}
-use Rattle.printing.specs.Sheet.{slots, lentFor, readFirst, totalLines, runOver, linesAfterFirst, sheetLines}
+use Rattle.lines.specs.Lines.{messageLine, messageLines}
+use Rattle.printing.specs.Sheet.{slots, lentFor, readFirst, runOver, linesAfterFirst, sheetLines}
 use Rattle.printing.specs.Turns.{firstLine, lineFor, waits, waitsFor, countTold, toldCount, told, goes, toldLines, seenAfter, Turn, turnOf, thenTurn, allTurns, printed}
-use Rattle.printing.proofs.InParts.{Split, in-two}
+use Rattle.printing.proofs.InParts.{in-two}
 
 -- ---- the numbers of the lines go on from turn to turn
 
@@ -57,7 +56,7 @@ unfolding goes
 stopped-waits size run e = or-right (size ≤? run .used) (waits false size run) e
 
 -- as many as are counted
-told-counted : (ended : Bool) (size : ℕ) (run : Run) → length (told ended size run) ≡ toldCount ended size run
+pub told-counted : (ended : Bool) (size : ℕ) (run : Run) → length (told ended size run) ≡ toldCount ended size run
 unfolding told toldCount countTold
 told-counted ended size run =
     on (waits ended size run)

@@ -1,5 +1,5 @@
 -- EVERY ACCOUNT'S DAY IS PRINTED ONCE, IN ITS ORDER: the lines of the accounts' days k = 0, 1, .., one after the other, are the lines of all totals.
-use mathlib.Core.Bool.{true, false}
+use mathlib.Core.Bool.{false}
 use mathlib.Core.List.{List, [], _∷_, _++_, append-assoc}
 use mathlib.Core.Path.{_≡_, refl, sym, ap, ap₂, _∙_}
 use Prim.Native.Nat.{ℕ, zero, suc, _+_, _*_, _/_, _%_, _^_, _≤_, _<_}
@@ -94,7 +94,7 @@ module _ (b : Structs.Book) (held : List ℕ) (side1 side2 : List ℤ) (k : ℕ)
   abbrev whole : Book contracts
   whole = bookOf b held side1 side2
 
-  own-days : days (whole .time) ≡ b .setup .days
+  pub own-days : days (whole .time) ≡ b .setup .days
   own-days = codes-own (b .setup .days) (b .setup .codes)
 
   pub no-account-day : b .setup .accounts * b .setup .days ≤ k → accountDayLines whole k ≡ []

@@ -1,19 +1,19 @@
 -- The totals of a day, asked with zero in every place, are the totals of its periods; those that a day lacks are zero.
-use mathlib.Core.Bool.{Bool, true, false, _&&_, true≢false}
-use mathlib.Core.List.{List, _∷_, [], _++_}
+use mathlib.Core.Bool.{true, false, true≢false}
+use mathlib.Core.List.{List}
 use mathlib.Core.Path.{_≡_, refl, sym, ap, _∙_}
 use Prim.Native.Nat.{ℕ, suc, _≤_, _<_}
 use native.Mathlib.Omega.{arith}
 use lib.IntN.{ℤ, pos}
-use lib.ListN.{length, getD, replicate, length-replicate, getD-replicate}
+use lib.ListN.{length, getD, replicate, getD-replicate}
 use borrow.Author.Tests.{ne-eqb, lt-ltb, le-ltb, lt-leb}
-use Rattle.words.specs.Tests.{if_then_else_, _<?_, _≤?_, _=?_, between}
+use Rattle.words.specs.Tests.{_<?_, _≤?_, _=?_}
 use Rattle.words.specs.Rules.{answer}
-use Rattle.words.specs.Lists.{build, join}
+use Rattle.words.specs.Lists.{join}
 use Rattle.laws.proofs.Cases.{on, by-lt, and-false}
 use Rattle.laws.proofs.Lists.{length-mapAt, getD-mapAt}
 use Rattle.laws.proofs.Builds.{build-same}
-use Rattle.meaning.specs.Time.{days, dayOf, hasDay, isPeriod, isPeriodAt, periodsAt}
+use Rattle.meaning.specs.Time.{days, dayOf, hasDay, isPeriod, isPeriodAt}
 use Rattle.meaning.specs.Ledgers.{contracts}
 use Rattle.meaning.specs.Books.{Book, hasAccount}
 use Rattle.meaning.specs.Soundness.{sound}

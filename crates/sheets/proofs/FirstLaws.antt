@@ -13,7 +13,6 @@ use Rattle.book.specs.declared.OpenedPacked.{OpenedPacked}
 use Rattle.lines.specs.Places.{placed, placeAfter}
 use Rattle.printing.specs.Turns.{lineFor, firstLine}
 use Rattle.sheets.specs.Parts.{begunOf}
-use Rattle.sheets.specs.declared.Begun.{Begun}
 
 first-line : (read : Reading Setup) → let o = openedPacked read in lineFor (o .answer) (o .book .setup .first) (o .book .setup .days) (o .book .setup .accounts) ≡ firstLine read
 unfolding openedPacked opened firstLine lineFor setupFor

@@ -1,12 +1,12 @@
 -- What is left of the bytes at hand, brought to the front of their buffer byte by byte.
 use mathlib.Core.Bool.{Bool, cond, _&&_}
 use mathlib.Core.List.{List}
-use mathlib.Core.Path.{_≡_, refl, sym, ap, _∙_}
+use mathlib.Core.Path.{_≡_, sym, ap, _∙_}
 use Prim.Native.Nat.{ℕ, _+_, _-_, _≤_, _<_}
 use native.Mathlib.Nat.{zero-add}
 use native.Mathlib.Omega.{arith}
-use lib.Dec.{leb, ltb}
-use lib.ListN.{length, getD, set, take, drop, length-drop}
+use lib.Dec.{leb}
+use lib.ListN.{length, getD, set, take, length-drop}
 use lib.Seq.{sets, getD-take, getD-drop, length-take-le, take-all}
 use borrow.Author.Tests.{le-ltb}
 use Rattle.laws.proofs.Cases.{by-lt, and-false}

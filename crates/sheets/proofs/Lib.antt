@@ -7,5 +7,9 @@ pub mod TurnLaws
 pub mod FirstLaws
 pub mod KeptLaws
 pub mod Room
+pub mod DayRoom
+pub mod Fronts
 pub mod SameTurns
+pub mod TurnsTaken
+pub mod SheetPrinted
 pub mod Unique

@@ -1,12 +1,9 @@
 -- Lines placed one after the other: more of them behind those that are there.
-use mathlib.Core.Bool.{true, false}
 use mathlib.Core.List.{List, [], _∷_, _++_, append-assoc, append-nil}
 use mathlib.Core.Path.{_≡_, refl, sym, ap, _∙_}
-use Prim.Native.Nat.{ℕ, _+_, _≤_}
-use native.Mathlib.Omega.{arith}
+use Prim.Native.Nat.{ℕ, _+_}
 use lib.ListN.{length}
 use lib.Seq.{length-sets}
-use Rattle.words.specs.Tests.{if_then_else_}
 use Rattle.words.specs.Lists.{build, join}
 use Rattle.laws.proofs.Cases.{on}
 use Rattle.laws.proofs.Builds.{build-next}
@@ -40,7 +37,7 @@ unfolding join
 join-on [] y = append-nil y
 join-on (x ∷ xs) y = ap (λ (l : List _). x ++ l) (join-on xs y) ∙ sym (append-assoc x (join xs) y)
 
-join-next : {A : Type 0} (n : ℕ) (f : ℕ → List A) → join (build (n + 1) f) ≡ join (build n f) ++ f n
+pub join-next : {A : Type 0} (n : ℕ) (f : ℕ → List A) → join (build (n + 1) f) ≡ join (build n f) ++ f n
 join-next n f = ap join (build-next n f) ∙ join-on (build n f) (f n)
 
 -- the lines of things 0 to p - 1 stand in the buffer, and where the next line goes

@@ -1,9 +1,9 @@
 -- THE BUFFER IS ALWAYS LARGE ENOUGH: lines that are short and few stand in it as one text, from its front on.
 use mathlib.Core.Bool.{true}
-use mathlib.Core.List.{List, [], _∷_, _++_}
+use mathlib.Core.List.{List, [], _∷_}
 use mathlib.Core.Path.{_≡_, refl, sym, ap, _∙_}
 use Prim.Native.Nat.{ℕ, suc, _+_, _*_, _%_, _^_, _≤_, _<_}
-use native.Mathlib.Nat.{add-zero, zero-add, suc-mul}
+use native.Mathlib.Nat.{add-zero, suc-mul}
 use native.Mathlib.Omega.{arith}
 use lib.ListN.{length, getD, length-append}
 use lib.Seq.{sets, length-sets}
@@ -13,7 +13,6 @@ use Rattle.lines.specs.Places.{hasRoom, placed, placeAfter, allPlaced, placeAft
 use Rattle.lines.specs.Lines.{messageLine, messageLines}
 use Rattle.lines.proofs.Decimals.{count-most, count-word}
 use Rattle.lines.proofs.Texts.{sets-append}
-use Rattle.printing.specs.Turns.{toldLines}
 
 -- each line has at most so many bytes
 abbrev pub Short : ℕ → List (List ℕ) → Type 0
@@ -45,23 +44,13 @@ module _ (most : ℕ) where
 
 -- ---- the lines of a turn: a number, an answer and six more bytes
 
-short-messages : (answers : List ℕ) (number : ℕ) → number < 2 ^ 64 → ((k : ℕ) → getD answers k 0 < 256) → Short 27 (messageLines number answers)
+pub short-messages : (answers : List ℕ) (number : ℕ) → number < 2 ^ 64 → ((k : ℕ) → getD answers k 0 < 256) → Short 27 (messageLines number answers)
 unfolding messageLines messageLine
 short-messages [] number n a = tt
 short-messages (answer ∷ answers) number n a =
     (simp length-append (omega (arith, count-word number n, count-most 2 answer (omega (arith, a 0)))), short-messages answers ((number + 1) % 2 ^ 64) (omega arith) (λ k. a (suc k)))
 
-many-messages : (answers : List ℕ) (number : ℕ) → length (messageLines number answers) ≡ length answers
+pub many-messages : (answers : List ℕ) (number : ℕ) → length (messageLines number answers) ≡ length answers
 unfolding messageLines
 many-messages [] number = refl
 many-messages (answer ∷ answers) number = ap suc (many-messages answers ((number + 1) % 2 ^ 64))
-
--- 2,048 bytes at hand are at most so many messages, and 65,536 bytes are lent for their lines
-pub told-as-text : (out : List ℕ) (seen : ℕ) (answers : List ℕ) → ((k : ℕ) → getD answers k 0 < 256) → length answers ≤ 2048 → 65536 ≤ length out
-    → (allPlaced out 0 (toldLines seen answers) ≡ sets out 0 (join (toldLines seen answers)))
-    × (placeAfterAll (length out) 0 (toldLines seen answers) ≡ length (join (toldLines seen answers)))
-unfolding toldLines
-told-as-text out seen answers a few enough =
-    let lines = messageLines ((seen + 1) % 2 ^ 64) answers in
-    let t = as-text 27 out 0 lines (short-messages answers ((seen + 1) % 2 ^ 64) (omega arith) a) (omega (arith, many-messages answers ((seen + 1) % 2 ^ 64), few, enough)) in
-    (t .0, t .1 ∙ zero-add (length (join lines)))

@@ -1,7 +1,7 @@
 -- A turn from what its calls ensure: the run, the last answer, whether it is waited for, how many are told, and their lines.
 use mathlib.Core.Bool.{Bool, true, false, not, _&&_, _||_}
 use mathlib.Core.List.{List}
-use mathlib.Core.Path.{_≡_, refl, sym, ap, _∙_}
+use mathlib.Core.Path.{_≡_, refl, ap, _∙_}
 use Prim.Native.Nat.{ℕ, _+_, _%_, _^_, _≤_}
 use native.Mathlib.Omega.{arith}
 use lib.ListN.{length, take}
@@ -15,7 +15,6 @@ use Rattle.lines.specs.Lines.{messageLines}
 use Rattle.lines.specs.Places.{allPlaced, placeAfterAll}
 use Rattle.printing.specs.Turns.{lastIn, waitsFor, waits, countTold, toldCount, told, goes, toldLines, seenAfter}
 use Rattle.sheets.specs.Parts.{turnedOf}
-use Rattle.sheets.specs.declared.Turned.{Turned}
 use Rattle.sheets.proofs.Answers.{front-take, front-last}
 
 -- never more than there are

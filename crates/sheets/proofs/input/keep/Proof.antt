@@ -1,5 +1,4 @@
 -- What was moved so far is the front of what is left. A byte is read before anything is written over it, since writing is never ahead of reading.
-use borrow.Author.Needs.{needs}
 use borrow.Author.Tests.{lt-ltb, ltb-true, ltb-false}
 use mathlib.Core.Bool.{true}
 use mathlib.Core.List.{List}
@@ -9,7 +8,7 @@ use native.Mathlib.Omega.{arith}
 use denote.Ref.{now}
 use lib.Dec.{ltb}
 use lib.ListN.{length, getD, set, take, length-set}
-use lib.Seq.{sets, length-sets, take-length}
+use lib.Seq.{sets, take-length}
 use Rattle.laws.proofs.Cases.{and-left, and-right}
 use Rattle.sheets.specs.Parts.{keptOf}
 use Rattle.sheets.proofs.KeptLaws.{one-more-kept, all-kept, kept-more}
