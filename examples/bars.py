@@ -1,22 +1,22 @@
-"""bars.py LIBRARY FILE ACCOUNT DAY
-
-The report of bars.c, by ctypes, from the archive as a shared object:
-
-    gcc -shared -o libghendufika.so -Wl,--whole-archive target/staticlib/libviewer.a -Wl,--no-whole-archive
-
-Leaves as bars.c does, and with 3 where this Python cannot load the library: it has x86-64 code, and ctypes loads only code of Python's own machine.
+"""use: bars.py LIBRARY FILE ACCOUNT DAY
+The report of bars.c, by ctypes, from the archive as a shared object (examples/build makes target/examples/libghendufika.so).
+Leaves as bars.c does: with 0 where everything is shown, 1 where a message was refused or unreadable, 2 where nothing is shown.
+And with 3 where this Python cannot load the library: it has x86-64 code, and ctypes loads only code of Python's own machine.
 """
 import ctypes
 import datetime
+import itertools
+import os
 import platform
 import sys
 from ctypes import POINTER, Structure, c_double, c_int32, c_size_t, c_uint8, c_uint16, c_uint32
 
-SLOTS = 16  # as the sheet program and story.h have
+SLOTS = 256  # as many as a book may have
 MARK = -(2**31)
 PLACES_A_DAY = 50
 ONE_SIDE, MATCHED, DIFFERENT = 1, 2, 3  # the cases of ghendufika_day_marks; 0 is blank
 NOT_IN_THE_PAIR = 15
+ALL_SHOWN, NOT_ALL_SHOWN, NOTHING_SHOWN, NOT_LOADED = range(4)
 
 WORDS = (
     "done", "the tables handed in are not a sound book", "every gate is closed", "authorisation number unknown",
@@ -29,6 +29,10 @@ WORDS = (
     "more than 50 entries", "a padding bit is 1", "a value does not fit its field, or more than 50 entries to write", "no room for the packed message",
     "identifier not held", "an account total beyond 99,999,999,999 either way",
 )
+
+
+class Trouble(Exception):
+    """Why there is nothing to show."""
 
 
 # ---- the structs of ghendufika.h that the report needs
@@ -72,13 +76,14 @@ BYTES = [ctypes.c_char_p, c_size_t]
 
 
 def load(path):
+    """A question's numbers are handed over as 32 bits, wide enough for whichever width the library takes: main lets none through that does not fit."""
     library = ctypes.CDLL(path)
     for name, result, arguments in (
         ("read_setup", SetupRead, BYTES + [c_size_t] * 3),
         ("open", Opened, [Setup] + TABLES),
         ("apply_all", AppliedAll, [Book] + BYTES + TABLES + [POINTER(c_uint8), c_size_t]),
-        ("figures", Figured, [Book] + TABLES + [c_uint8, c_uint16]),
-        ("day_marks", c_uint8, [Book] + TABLES + [c_uint8, c_uint16, c_uint8, c_uint16, POINTER(c_uint8), c_size_t] + [POINTER(c_double), c_size_t] * 2),
+        ("figures", Figured, [Book] + TABLES + [c_uint32] * 2),
+        ("day_marks", c_uint8, [Book] + TABLES + [c_uint32] * 4 + [POINTER(c_uint8), c_size_t] + [POINTER(c_double), c_size_t] * 2),
     ):
         function = getattr(library, "ghendufika_" + name)
         function.restype, function.argtypes = result, arguments
@@ -96,7 +101,7 @@ class Story:
         self.side1, self.side2 = (c_int32 * max(lent, 1))(), (c_int32 * max(lent, 1))()
         self.tables = self.held, SLOTS, self.side1, lent, self.side2, lent
         read = library.ghendufika_read_setup(packed, len(packed), SLOTS, lent, lent)
-        self.refusal, self.answers = read.answer, []
+        self.refusal, self.answers, self.unread = read.answer, [], 0
         if self.refusal == 0:
             self.book = library.ghendufika_open(read.setup, *self.tables).book
             self.apply(packed[read.length:])
@@ -104,7 +109,20 @@ class Story:
     def apply(self, messages):
         answers = (c_uint8 * (len(messages) + 1))()
         applied = self.library.ghendufika_apply_all(self.book, messages, len(messages), *self.tables, answers, len(answers))
-        self.book, self.answers = applied.book, answers[: applied.done]
+        self.book, self.answers, self.unread = applied.book, answers[: applied.done], len(messages) - applied.used
+
+    def is_cut_short(self):
+        return bool(self.answers) and 19 <= self.answers[-1] <= 22
+
+    def count_refused(self):
+        return sum(answer != 0 for answer in self.answers) - self.is_cut_short()
+
+    def missing(self):
+        """How much is missing in the book, in one line; nothing where every message was read and done."""
+        refused, messages = self.count_refused(), len(self.answers)
+        told = [f"{refused} of {messages} messages REFUSED"] * (refused > 0)
+        told += [f"message {messages} UNREADABLE: it and all behind it, {self.unread} bytes, are missing"] * self.is_cut_short()
+        return "; ".join(told)
 
     def periods_on(self, day):
         return (46, 48, 50)[self.book.setup.codes[day - self.book.setup.first]]
@@ -125,7 +143,7 @@ class Story:
         if answer == NOT_IN_THE_PAIR:
             return None
         if answer != 0:
-            raise RuntimeError(f"marks refused by {answer} ({WORDS[answer]})")
+            raise Trouble(f"question refused by {answer} ({WORDS[answer]})")
         pair = self.book.setup.rows[originator]
         on_side_one = pair.account1 == account
         own_side = self.side1 if on_side_one else self.side2
@@ -150,71 +168,123 @@ def signed_mwh(mwh):
     return "nothing" if mwh is None else "0.000" if mwh == 0 else f"{mwh:+.3f}"
 
 
-def report_messages(answers):
-    refused = [(k, answer) for k, answer in enumerate(answers, 1) if answer != 0]
-    print(f"{len(answers)} messages: {len(answers) - len(refused)} done, {len(refused)} refused")
-    for k, answer in refused:
-        print(f"  message {k} refused by {answer}: {WORDS[answer]}")
-    if answers and 19 <= answers[-1] <= 22:
-        print(f"  nothing behind message {len(answers)} was read")
+def refusals(story):
+    """Which messages are missing: a line for each row of them that one number refused."""
+    first = 0
+    for answer, group in itertools.groupby(story.answers):
+        last = first + len(list(group))
+        if answer != 0:
+            which = f"message {last} could not be read, by" if 19 <= answer <= 22 else (
+                f"message {last} refused by" if last == first + 1 else f"messages {first + 1} to {last} refused by")
+            yield f"{which} {answer}: {WORDS[answer]}"
+        first = last
 
 
-def report_bars(identifiers, periods):
+def report_messages(story):
+    refused, unreadable = story.count_refused(), int(story.is_cut_short())
+    print(f"{len(story.answers)} messages: {len(story.answers) - refused - unreadable} done, {refused} refused, {unreadable} unreadable")
+    for line in refusals(story):
+        print(f"  {line}")
+    if story.missing():
+        print(f"INCOMPLETE: {story.missing()}")
+
+
+def report_bars(identifiers, periods, closed):
     count = {}
     for period in range(1, periods + 1):
+        gate = "closed" if period <= closed else "open"
         for name, other_account, bars in identifiers:
             standing, own, other = bars[period - 1]
             zero = not own and not other
-            count[standing, zero] = count.get((standing, zero), 0) + 1
+            kind = standing, "zero" if zero else gate
+            count[kind] = count.get(kind, 0) + 1
             if not zero:
-                print(f"{period:6}  {name:>10}  {other_account:4}  {standing:17}  {signed_mwh(own):>13}  {signed_mwh(other):>13}")
-    kinds = "agreed", "disagreed", "this account only", "the other only"
-    print("listed: " + ", ".join(f"{count.get((kind, False), 0)} {kind}" for kind in kinds))
-    print("at zero, not listed: " + ", ".join(f"{count.get((kind, True), 0)} {kind}" for kind in kinds if kind != "disagreed"))
+                print(f"{period:6}  {gate:6}  {name:>10}  {other_account:4}  {standing:17}  {signed_mwh(own):>13}  {signed_mwh(other):>13}")
+    counted = lambda where, *standings: ", ".join(f"{count.get((one, where), 0)} {one}" for one in standings)  # noqa: E731
+    one_side = "this account only", "the other only"
+    print(f"agreed: {count.get(('agreed', 'open'), 0) + count.get(('agreed', 'closed'), 0)}")
+    print("not agreed yet, gate open: " + counted("open", "disagreed", *one_side))
+    print("never agreed, gate closed: " + counted("closed", "disagreed", *one_side))
+    print("at zero, not listed: " + counted("zero", "agreed", *one_side))
 
 
 def report(story, account, day, figures):
     date = datetime.date(2000, 1, 1) + datetime.timedelta(day)
-    print(f"Account {account} on day {day} ({date:%A} {date.day} {date:%B %Y}): {story.periods_on(day)} periods, {story.gates_closed_on(day)} gates closed")
-    report_messages(story.answers)
+    periods, closed = story.periods_on(day), story.gates_closed_on(day)
+    seen = [story.bars(slot, account, day) for slot in range(SLOTS) if story.held[slot] != 0]
+    print(f"Account {account} on day {day} ({date:%A} {date.day} {date:%B %Y}): {periods} periods, {closed} gates closed")
+    report_messages(story)
     print(f"Sold {figures.sold:.3f} MWh, bought {figures.bought:.3f} MWh, net {figures.net:.3f} MWh; only agreed volumes count\n")
     print(f"MWh, plus is sold by account {account}, minus is bought")
-    print("period  identifier  with  what stands         this account      the other")
-    seen = [story.bars(slot, account, day) for slot in range(SLOTS) if story.held[slot] != 0]
-    report_bars([one for one in seen if one is not None], story.periods_on(day))
+    print("period  gate    identifier  with  what stands         this account      the other")
+    report_bars([one for one in seen if one is not None], periods, closed)
+    if story.missing():
+        print("INCOMPLETE: messages are missing in these figures, see above")
 
 
-def number(text, most):
+# ---- the program
+
+def number(text, most, what):
     """ctypes cuts a number to its field without a word, so one that does not fit is refused here."""
     if not (text.isascii() and text.isdigit() and int(text) <= most):
-        raise ValueError(text)
+        raise Trouble(f"{text} is no {what}: a number from 0 to {most}")
     return int(text)
 
 
-def main(arguments):
+def read(path):
     try:
-        library_path, path, account, day = arguments
-        account, day = number(account, 255), number(day, 65535)
-    except ValueError:
-        print("usage: bars.py LIBRARY FILE ACCOUNT DAY", file=sys.stderr)
-        return 2
-    try:
-        library = load(library_path)
+        with (sys.stdin.buffer if path == "-" else open(path, "rb")) as file:
+            return file.read()
     except OSError as why:
-        print(f"bars.py: cannot load the library, which has x86-64 code, into a Python on {platform.machine()}: {why}", file=sys.stderr)
-        return 3
-    with (sys.stdin.buffer if path == "-" else open(path, "rb")) as file:
-        story = Story(library, file.read())
+        raise Trouble(f"{path} cannot be read: {os.strerror(why.errno)}") from None
+
+
+def show(library, path, account, day):
+    account, day = number(account, 255, "account"), number(day, 65535, "day")
+    story = Story(library, read(path))
     if story.refusal != 0:
-        print(f"setup refused by {story.refusal} ({WORDS[story.refusal]})")
-        return 1
+        raise Trouble(f"setup refused by {story.refusal} ({WORDS[story.refusal]})")
     figured = story.figures(account, day)
     if figured.answer != 0:
-        print(f"question refused by {figured.answer} ({WORDS[figured.answer]})")
-        return 1
+        raise Trouble(f"question refused by {figured.answer} ({WORDS[figured.answer]})")
     report(story, account, day, figured.day)
-    return 0
+    if not story.missing():
+        return ALL_SHOWN
+    print(f"bars.py: INCOMPLETE: {story.missing()}", file=sys.stderr)
+    return NOT_ALL_SHOWN
+
+
+def main(arguments):
+    if arguments == ["--help"]:
+        print(__doc__, end="")
+        return ALL_SHOWN
+    if len(arguments) != 4:
+        print(__doc__, end="", file=sys.stderr)
+        return NOTHING_SHOWN
+    try:
+        library = load(arguments[0])
+    except (OSError, AttributeError) as why:
+        print(f"bars.py: cannot load the library, which has x86-64 code, into a Python on {platform.machine()}: {why}", file=sys.stderr)
+        return NOT_LOADED
+    try:
+        return show(library, *arguments[1:])
+    except Trouble as why:
+        print(f"Nothing to show: {why}")
+        print(f"bars.py: nothing to show: {why}", file=sys.stderr)
+        return NOTHING_SHOWN
+
+
+def leave(arguments):
+    """What main gives, or NOTHING_SHOWN where standard output could not be written; Python tells that too late by itself."""
+    try:
+        status = main(arguments)
+        sys.stdout.flush()
+        return status
+    except OSError as why:
+        print(f"bars.py: standard output cannot be written: {why.strerror}", file=sys.stderr)
+        os.dup2(os.open(os.devnull, os.O_WRONLY), sys.stdout.fileno())  # what is left to write goes nowhere
+        return NOTHING_SHOWN
 
 
 if __name__ == "__main__":
-    sys.exit(main(sys.argv[1:]))
+    sys.exit(leave(sys.argv[1:]))

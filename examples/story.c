@@ -1,8 +1,10 @@
 /* Reading a story into a book; see story.h. */
 #include "story.h"
 
+#include <errno.h>
 #include <stdio.h>
 #include <stdlib.h>
+#include <string.h>
 
 typedef struct {
     uint8_t *bytes;
@@ -28,12 +30,12 @@ static bool read_to_end(FILE *file, input *all) {
 static bool read_file(const char *path, input *all) {
     bool standard = path[0] == '-' && path[1] == '\0';
     FILE *file = standard ? stdin : fopen(path, "rb");
-    if (file == NULL || !read_to_end(file, all)) {
-        perror(path);
-        return false;
-    }
+    if (file == NULL) return false;
+    bool whole = read_to_end(file, all);
+    int why = errno;
     if (!standard) fclose(file);
-    return true;
+    errno = why;
+    return whole;
 }
 
 /* The tables' length depends on the number of days, so that is looked up before the setup is read: bits 16 to 19. */
@@ -42,33 +44,78 @@ static size_t places_for(const input *all) {
     return SLOTS * days * GHENDUFIKA_PLACES_A_DAY;
 }
 
+static void count_refused(story *told) {
+    told->refused = 0;
+    for (size_t k = 0; k < told->messages; k++) told->refused += told->answers[k] != GHENDUFIKA_DONE;
+    if (is_cut_short(told)) told->refused--;
+}
+
 static bool apply_messages(story *told, const uint8_t *bytes, size_t length) {
     /* No message is shorter than a byte, so there is room for every answer. */
     told->answers = malloc(length + 1);
     if (told->answers == NULL) return false;
     ghendufika_applied_all applied = ghendufika_apply_all(told->book, bytes, length, LENT(told), told->answers, length + 1);
+    if (applied.answer != GHENDUFIKA_DONE) return false;
     told->book = applied.book;
     told->messages = applied.done;
-    return applied.answer == GHENDUFIKA_DONE;
+    told->unread = length - applied.used;
+    count_refused(told);
+    return true;
+}
+
+static bool take_in(story *told, const input *all) {
+    told->lent = places_for(all);
+    ghendufika_setup_read setup = ghendufika_read_setup(all->bytes, all->length, SLOTS, told->lent, told->lent);
+    if (setup.answer != GHENDUFIKA_DONE) {
+        snprintf(told->trouble, sizeof told->trouble, "setup refused by %u (%s)", setup.answer, words_of(setup.answer));
+        return false;
+    }
+    ghendufika_opened opened = ghendufika_open(setup.setup, LENT(told));
+    told->book = opened.book;
+    if (opened.answer == GHENDUFIKA_DONE && apply_messages(told, all->bytes + setup.length, all->length - setup.length)) return true;
+    snprintf(told->trouble, sizeof told->trouble, "no memory for the answers");
+    return false;
 }
 
 bool read_story(const char *path, story *told) {
-    input all;
-    if (!read_file(path, &all)) return false;
+    input all = {NULL, 0};
+    told->trouble[0] = '\0';
     told->answers = NULL;
-    told->messages = 0;
-    told->lent = places_for(&all);
-    ghendufika_setup_read setup = ghendufika_read_setup(all.bytes, all.length, SLOTS, told->lent, told->lent);
-    told->refusal = setup.answer;
-    bool whole = true;
-    if (told->refusal == GHENDUFIKA_DONE) {
-        ghendufika_opened opened = ghendufika_open(setup.setup, LENT(told));
-        told->book = opened.book;
-        whole = opened.answer == GHENDUFIKA_DONE && apply_messages(told, all.bytes + setup.length, all.length - setup.length);
-        if (!whole) fprintf(stderr, "%s: no memory for the answers\n", path);
-    }
+    told->messages = told->refused = told->unread = 0;
+    bool is_read = read_file(path, &all);
+    if (!is_read) snprintf(told->trouble, sizeof told->trouble, "%.200s cannot be read: %s", path, strerror(errno));
+    bool is_book = is_read && take_in(told, &all);
     free(all.bytes);
-    return whole;
+    return is_book;
+}
+
+bool is_cut_short(const story *told) {
+    uint8_t last = told->messages == 0 ? GHENDUFIKA_DONE : told->answers[told->messages - 1];
+    return GHENDUFIKA_BYTES_END_TOO_SOON <= last && last <= GHENDUFIKA_PADDING_BIT;
+}
+
+bool is_complete(const story *told) { return told->refused == 0 && !is_cut_short(told); }
+
+void tell_missing(const story *told, char line[MOST_LINE]) {
+    int used = 0;
+    line[0] = '\0';
+    if (told->refused > 0) used = snprintf(line, MOST_LINE, "%zu of %zu messages REFUSED", told->refused, told->messages);
+    if (is_cut_short(told))
+        snprintf(line + used, MOST_LINE - (size_t)used, "%smessage %zu UNREADABLE: it and all behind it, %zu bytes, are missing", used > 0 ? "; " : "",
+                 told->messages, told->unread);
+}
+
+bool next_refusal(const story *told, size_t *at, char line[MOST_LINE]) {
+    while (*at < told->messages && told->answers[*at] == GHENDUFIKA_DONE) ++*at;
+    if (*at == told->messages) return false;
+    uint8_t answer = told->answers[*at];
+    size_t first = *at + 1; /* messages are numbered from 1 */
+    while (*at < told->messages && told->answers[*at] == answer) ++*at;
+    if (is_cut_short(told) && first == told->messages)
+        snprintf(line, MOST_LINE, "message %zu could not be read, by %u: %s", first, answer, words_of(answer));
+    else if (*at == first) snprintf(line, MOST_LINE, "message %zu refused by %u: %s", first, answer, words_of(answer));
+    else snprintf(line, MOST_LINE, "messages %zu to %zu refused by %u: %s", first, *at, answer, words_of(answer));
+    return true;
 }
 
 const char *words_of(uint8_t answer) {
@@ -85,11 +132,6 @@ const char *words_of(uint8_t answer) {
     return answer < sizeof words / sizeof words[0] ? words[answer] : "unknown";
 }
 
-bool is_cut_short(const story *told) {
-    uint8_t last = told->messages == 0 ? GHENDUFIKA_DONE : told->answers[told->messages - 1];
-    return GHENDUFIKA_BYTES_END_TOO_SOON <= last && last <= GHENDUFIKA_PADDING_BIT;
-}
-
 unsigned originator_of(const story *told, unsigned slot) { return (told->held[slot] - 1) / 65536; }
 unsigned reference_of(const story *told, unsigned slot) { return (told->held[slot] - 1) % 65536; }
 
@@ -98,6 +140,30 @@ unsigned periods_on(const story *told, unsigned day) {
     return lengths[told->book.setup.codes[day - told->book.setup.first]];
 }
 
+unsigned gates_closed_on(const story *told, unsigned day) {
+    unsigned closed = told->book.closed;
+    for (unsigned earlier = told->book.setup.first; earlier < day; earlier++) {
+        if (closed <= periods_on(told, earlier)) return 0;
+        closed -= periods_on(told, earlier);
+    }
+    return closed < periods_on(told, day) ? closed : periods_on(told, day);
+}
+
 size_t place_of(const story *told, unsigned slot, unsigned day, unsigned period) {
     return (slot * told->book.setup.days + (day - told->book.setup.first)) * GHENDUFIKA_PLACES_A_DAY + period - 1;
+}
+
+bool is_number(const char *text, unsigned long most, unsigned *number) {
+    char *end;
+    errno = 0;
+    unsigned long value = strtoul(text, &end, 10);
+    *number = (unsigned)value;
+    return text[0] >= '0' && text[0] <= '9' && *end == '\0' && errno == 0 && value <= most;
+}
+
+int leave(const char *program, int status) {
+    bool failed = ferror(stdout) != 0;
+    if (fclose(stdout) == 0 && !failed) return status;
+    fprintf(stderr, "%s: standard output cannot be written: %s\n", program, strerror(errno));
+    return NOTHING_SHOWN;
 }

@@ -1,0 +1,52 @@
+"""example_stories.py NAME
+
+A packed story of tests/examples on standard output, packed here by itself. Each is named after what happened to whom. All have one day 100 of 48
+periods; authorisation 0 has agents 7 and 9 for accounts 11, the first party, and 22, the second, who is our client. Volumes are kWh, plus where the
+first party sells.
+"""
+import sys
+
+
+def packed(*fields):
+    bits = "".join(format(value % 2**width, f"0{width}b") for width, value in fields)
+    bits += "0" * (-len(bits) % 8)
+    return bytes(int(bits[k:k + 8], 2) for k in range(0, len(bits), 8))
+
+
+SETUP = packed((16, 100), (4, 1), (7, 23), (7, 1), (2, 1), (8, 7), (8, 9), (6, 11), (6, 22), (16, 500), (16, 0), (16, 65535), (2, 0))
+GATE = packed((2, 0))
+
+
+def said(agent, reference, volumes, key=500):
+    entries = [field for period, kwh in sorted(volumes.items()) for field in ((6, period), (28, kwh))]
+    return packed((2, 1), (6, 0), (8, agent), (16, key), (6, 0), (16, reference), (16, 100), (16, 100), (6, len(volumes)), *entries)
+
+
+def agreed(reference, volumes):
+    return said(9, reference, volumes) + said(7, reference, volumes)
+
+
+STORIES = {
+    # more contracts than the sheet program has slots for, and fewer than a book has
+    "twenty_agreed_sales": SETUP + b"".join(agreed(reference, {35: -1000}) for reference in range(1, 21)),
+    # the 257th finds every slot held
+    "more_sales_than_a_book_holds": SETUP + b"".join(agreed(reference, {35: -1000}) for reference in range(1, 258)),
+    "a_sale_confirmed_with_a_wrong_key": SETUP + said(9, 1, {35: -5000}) + said(7, 1, {35: -5000}, key=501),
+    # more rows of refusals than the box above the bars has lines
+    "a_day_of_refusals": SETUP + b"".join(said(9, k, {35: -1000}, key=501) * 3 + agreed(k, {35: -1000}) + said(9, k, {49: -1}) for k in range(1, 7)),
+    # zero beside a volume: agreed, said by the client only, by the other only, and disagreed with it
+    "zeros_beside_a_sale": SETUP + agreed(1, {35: -5000}) + agreed(2, {}) + said(9, 3, {}) + said(7, 4, {}) + said(9, 5, {35: -2000}) + said(7, 5, {}),
+    # periods 1 and 2 are closed before the two agree, 40 and 41 are open
+    "two_periods_closed_before_they_agreed": SETUP + said(9, 1, {1: -1000, 2: -1000, 40: -1000, 41: -1000}) + said(7, 1, {1: -1500, 40: -1500, 41: -1000})
+    + said(9, 2, {1: -700, 41: -700}) + said(7, 3, {2: -300}) + GATE * 2,
+    "nothing_said": SETUP,
+}
+
+if __name__ == "__main__":
+    if sys.argv[1:] == ["--help"]:
+        print(__doc__ + "NAME is one of: " + ", ".join(STORIES))
+    elif len(sys.argv) != 2 or sys.argv[1] not in STORIES:
+        sys.exit(__doc__ + "NAME is one of: " + ", ".join(STORIES))
+    else:
+        sys.stdout.buffer.write(STORIES[sys.argv[1]])
+        sys.stdout.flush()
