@@ -1,9 +1,11 @@
-/* check_feedback FILE [all]
+/* check_feedback FILE [all | against FEEDBACK]
  * For the operations desk, from a packed setup and messages ("-" is standard input).
- * What each side of every contract says, to be held against the central agent's feedback. Pair by pair, identifier by identifier, day and period: whole kWh as they stand, plus where the
+ * By itself: what each side of every contract says. Pair by pair, identifier by identifier, day and period: whole kWh as they stand, plus where the
  * first party sells to the second. Places matched at zero are counted and, unless `all` is asked, not listed.
- * Leaves with 0 where every place that states anything matches and every message was done, 1 where not, 2 where there is nothing to show. */
-#include "story.h"
+ * Against the central agent's feedback, a file of lines (feedback.h): pair by pair where our book differs from it.
+ * Leaves with 0 where every place that states anything matches (or our book has what the feedback has) and every message was done, 1 where not, 2
+ * where there is nothing to show. */
+#include "against.h"
 
 #include <inttypes.h>
 #include <stdio.h>
@@ -123,10 +125,10 @@ static int check(const story *told) {
     return unmatched == 0 && is_complete(told) ? ALL_SHOWN : NOT_ALL_SHOWN;
 }
 
-static int show(const story *told) {
+static int show(const story *told, const feedback *said) {
     char line[MOST_LINE];
     print_messages(told);
-    int status = check(told);
+    int status = said->count > 0 ? hold_against(told, said) : check(told);
     if (is_complete(told)) return status;
     tell_missing(told, line);
     printf("INCOMPLETE: messages are missing in these figures, see above\n");
@@ -136,15 +138,18 @@ static int show(const story *told) {
 
 int main(int argc, char **argv) {
     static story told;
-    static const char use[] = "use: check_feedback FILE [all]\n"
+    static const char use[] = "use: check_feedback FILE [all | against FEEDBACK]\n"
                               "What both sides of every contract say, from a packed setup and messages in FILE (- is standard input); `all` lists zeros too.\n"
+                              "Against FEEDBACK, lines of identifier, side, day, period and kWh: where our book differs from it.\n"
                               "Leaves with 0 where nothing differs and nothing is missing, 1 where something does or is, 2 where nothing is shown.\n";
+    bool against = argc == 4 && strcmp(argv[2], "against") == 0;
+    feedback said = {NULL, 0};
     list_all = argc == 3 && strcmp(argv[2], "all") == 0;
     if (argc == 2 && strcmp(argv[1], "--help") == 0) {
         fputs(use, stdout);
         return leave("check_feedback", ALL_SHOWN);
     }
-    if (argc != 2 && !list_all) {
+    if (argc != 2 && !list_all && !against) {
         fputs(use, stderr);
         return NOTHING_SHOWN;
     }
@@ -152,7 +157,8 @@ int main(int argc, char **argv) {
     if (!read_story(argv[1], &told)) {
         printf("Nothing to show: %s\n", told.trouble);
         fprintf(stderr, "check_feedback: nothing to show: %s\n", told.trouble);
-    } else status = show(&told);
+    } else if (!against || read_feedback(argv[3], &said)) status = show(&told, &said);
+    free(said.places);
     free(told.answers);
     return leave("check_feedback", status);
 }

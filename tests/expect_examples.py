@@ -3,6 +3,7 @@
     expect_examples.py report STORY SHEET ACCOUNT DAY    prints the report that bars.c and bars.py have to give
     expect_examples.py text STORY SHEET ACCOUNT DAY      prints what text_bars has to show
     expect_examples.py feedback STORY SHEET              prints the table that check_feedback.c has to give
+    expect_examples.py against STORY SHEET FEEDBACK      prints what check_feedback.c has to say against a file of feedback
     expect_examples.py hold STORY SHEET FOLDER           holds all that was made of a story against the sheet: FOLDER/feedback, and for each account
                                                          and day ACCOUNT_DAY.report and ACCOUNT_DAY.svg, each with NAME.status, the exit status of
                                                          its program; prints what it met, for the tally
@@ -437,6 +438,70 @@ def feedback(story):
     return lines + feedback_end(story), not unmatched
 
 
+# ---- our book against the feedback
+
+def stated_by_us(story):
+    return {name + (side, day, period): kwh for (*name, side, day), row in story.rows.items() for name in [tuple(name)]
+            for period, kwh in enumerate(row, 1) if kwh != NOTHING}
+
+
+def stated_by_them(path):
+    places = {}
+    with open(path) as file:
+        for line in file:
+            if line.strip() and not line.startswith("#"):
+                name, *numbers, kwh = line.split()
+                places[tuple(map(int, name.split("/") + numbers))] = int(kwh)
+    return places
+
+
+def against_ranges(places, ours, theirs):
+    """[first place, last period, our volumes, their volumes] of periods in a row with the same difference; a volume is None where nothing stands."""
+    ranges = []
+    for place in sorted(places):
+        pair = ours.get(place), theirs.get(place)
+        if pair[0] == pair[1]:
+            continue
+        difference = pair if None in pair else pair[0] - pair[1]
+        if ranges and ranges[-1][0][:4] == place[:4] and ranges[-1][1] == place[4] - 1 and ranges[-1][4] == difference:
+            ranges[-1][1] = place[4]
+            ranges[-1][2].add(pair[0])
+            ranges[-1][3].add(pair[1])
+        else:
+            ranges.append([place, place[4], {pair[0]}, {pair[1]}, difference])
+    return ranges
+
+
+def against_line(place, last, ours, theirs, difference):
+    words = "OUR BOOK ONLY" if theirs == {None} else "FEEDBACK ONLY" if ours == {None} else (
+        f"DIFFERENT, our book has {abs(difference)} {'less' if difference < 0 else 'more'}")
+    volume = lambda volumes: "various" if len(volumes) > 1 else "nothing" if volumes == {None} else str(*volumes)  # noqa: E731
+    periods = str(last) if last == place[4] else f"{place[4]} to {last}"
+    return "%10s  %4d  %5d  %8s  %11s  %11s  %s" % (f"{place[0]}/{place[1]}", place[2], place[3], periods, volume(ours), volume(theirs), words)
+
+
+def against(story, path):
+    """The lines, and whether our book has what the feedback has."""
+    ours, theirs = stated_by_us(story), stated_by_them(path)
+    lines, totals = feedback_head(story), [0] * 4
+    pair_of = lambda place: story.pairs[place[0]] if place[0] < len(story.pairs) else (64, 64)  # noqa: E731
+    for pair in sorted({pair_of(place) for place in ours | theirs}):
+        places = [place for place in ours | theirs if pair_of(place) == pair]
+        both = [(ours.get(place), theirs.get(place)) for place in places]
+        numbers = [sum(a == b for a, b in both), sum(None not in (a, b) and a != b for a, b in both), sum(b is None for _, b in both), sum(a is None for a, _ in both)]
+        lines += ["\nOf no authorisation that our book has" if pair == (64, 64) else pair_head(pair)]
+        lines += ["identifier  side    day   periods     our book     feedback  what differs"]
+        lines += [against_line(*one) for one in against_ranges(places, ours, theirs)]
+        lines += [("no authorisation" if pair == (64, 64) else "accounts %d and %d" % pair) + AGAINST_COUNTS % tuple(numbers)]
+        totals = [a + b for a, b in zip(totals, numbers)]
+    same = totals[1:] == [0, 0, 0]
+    lines += ["\nin all" + AGAINST_COUNTS % tuple(totals), "Our book has what the feedback has." if same else "To be cleared with the central agent."]
+    return lines + feedback_end(story), same
+
+
+AGAINST_COUNTS = ": places alike %d, different %d, our book only %d, feedback only %d"
+
+
 # ---- the program
 
 def hold_text(path, expected):
@@ -480,12 +545,12 @@ def main(job, story_path, sheet_path, *rest):
         hold(story, rest[0])
         return
     lines = {"report": lambda: report(story, int(rest[0]), int(rest[1])), "text": lambda: text(story, int(rest[0]), int(rest[1])),
-             "feedback": lambda: feedback(story)[0]}[job]()
+             "feedback": lambda: feedback(story)[0], "against": lambda: against(story, rest[0])[0]}[job]()
     print("\n".join(lines))
 
 
 if __name__ == "__main__":
-    if len(sys.argv) < 4 or sys.argv[1] not in ("hold", "report", "text", "feedback"):
+    if len(sys.argv) < 4 or sys.argv[1] not in ("hold", "report", "text", "feedback", "against"):
         sys.exit(__doc__) if sys.argv[1:] != ["--help"] else print(__doc__, end="")
     else:
         main(*sys.argv[1:])
