@@ -121,7 +121,7 @@ class Story:
         """How much is missing in the book, in one line; nothing where every message was read and done."""
         refused, messages = self.count_refused(), len(self.answers)
         told = [f"{refused} of {messages} messages REFUSED"] * (refused > 0)
-        told += [f"message {messages} UNREADABLE: it and all behind it, {self.unread} bytes, are missing"] * self.is_cut_short()
+        told += [f"from message {messages} on UNREADABLE, {self.unread} bytes missing"] * self.is_cut_short()
         return "; ".join(told)
 
     def periods_on(self, day):

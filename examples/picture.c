@@ -4,6 +4,7 @@
 #include <errno.h>
 #include <stdarg.h>
 #include <stdio.h>
+#include <string.h>
 
 enum { WIDTH = 900, LEFT = 92, COLUMN = 16, BAR = 12, HALF = 150, LINE = 17, HEAD = 106, FOOT = 122, BETWEEN_TICKS = 28 };
 /* A volume too small for the scale is still to be seen. Those of one standing are drawn as one: each for itself SMALLEST high, many of them would be a
@@ -254,7 +255,9 @@ static void draw_box(const picture *to, const story *told) {
     unsigned shown = to->refusals <= LINES_IN_BOX ? to->refusals : LINES_IN_BOX - 1;
     tell_missing(told, line);
     fprintf(to->file, "<rect class=\"missing\" x=\"12\" y=\"8\" width=\"%d\" height=\"%d\"/>\n", WIDTH - 24, to->top - 8);
-    text_at(to, 28, 31, "font-size=\"16\" font-weight=\"bold\" fill=\"#a00000\"", "INCOMPLETE: %s", line);
+    /* A long line is smaller, so that its end is not outside the picture. */
+    text_at(to, 28, 31, strlen(line) > 70 ? "font-size=\"13\" font-weight=\"bold\" fill=\"#a00000\"" : "font-size=\"16\" font-weight=\"bold\" fill=\"#a00000\"",
+            "INCOMPLETE: %s", line);
     draw_refusals(to, told, 51, shown);
     if (shown == to->refusals) return;
     text_at(to, 28, 51 + LINE * (int)shown, "font-weight=\"bold\" fill=\"#a00000\"", "and more: all that is missing is listed under the bars");

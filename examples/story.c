@@ -101,8 +101,7 @@ void tell_missing(const story *told, char line[MOST_LINE]) {
     line[0] = '\0';
     if (told->refused > 0) used = snprintf(line, MOST_LINE, "%zu of %zu messages REFUSED", told->refused, told->messages);
     if (is_cut_short(told))
-        snprintf(line + used, MOST_LINE - (size_t)used, "%smessage %zu UNREADABLE: it and all behind it, %zu bytes, are missing", used > 0 ? "; " : "",
-                 told->messages, told->unread);
+        snprintf(line + used, MOST_LINE - (size_t)used, "%sfrom message %zu on UNREADABLE, %zu bytes missing", used > 0 ? "; " : "", told->messages, told->unread);
 }
 
 bool next_refusal(const story *told, size_t *at, char line[MOST_LINE]) {

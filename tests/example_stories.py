@@ -39,6 +39,7 @@ STORIES = {
     # periods 1 and 2 are closed before the two agree, 40 and 41 are open
     "two_periods_closed_before_they_agreed": SETUP + said(9, 1, {1: -1000, 2: -1000, 40: -1000, 41: -1000}) + said(7, 1, {1: -1500, 40: -1500, 41: -1000})
     + said(9, 2, {1: -700, 41: -700}) + said(7, 3, {2: -300}) + GATE * 2,
+    "a_day_of_refusals_and_a_cut_end": SETUP + (said(9, 1, {35: -1000}, key=501) + said(9, 1, {49: -1})) * 500 + said(9, 1, {35: -1000})[:-1],
     "nothing_said": SETUP,
 }
 

@@ -122,7 +122,7 @@ def missing(story):
     refused = sum(0 < answer < 19 for answer in story.answers)
     parts = [f"{refused} of {len(story.answers)} messages REFUSED"] if refused else []
     if cut_short(story):
-        parts += [f"message {len(story.answers)} UNREADABLE: it and all behind it, {story.unread} bytes, are missing"]
+        parts += [f"from message {len(story.answers)} on UNREADABLE, {story.unread} bytes missing"]
     return "; ".join(parts)
 
 
@@ -359,7 +359,8 @@ def met_besides(story, day, bars, expected, drawn_together):
 def text_line(label, mwh, most, words):
     bar = "#" * int(10 * abs(mwh) / most + 0.5) or "." * (mwh != 0)
     left, right = (bar, "") if mwh < 0 else ("", bar)
-    return f"{label:17}  {left:>10}|{right:10}  {mwh:+.3f} MWh, {words}" if mwh else f"{label:17}  {left:>10}|{right:10}  0.000 MWh, {words}"
+    figure = f"{mwh:+.3f}" if mwh else " 0.000"
+    return f"{label:17}  {left:>10}|{right:10}  {figure} MWh, {words}"
 
 
 def text(story, account, day):
