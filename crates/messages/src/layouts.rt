@@ -7,6 +7,9 @@ ghost use Rattle.messages.specs.Parts.{kindRefusal};
 
 const KIND_THREE: u8 = 20;
 
+// A kind is a field of 2 bits.
+const KIND_DOES_NOT_FIT: u8 = 23;
+
 pub const MOST_ENTRIES: u8 = 50;
 
 // "Notification: kind 1 (2), authorisation 6, agent 8, key 16, originator 6, reference 16, first day 16, last day 16, count 6"
@@ -22,7 +25,7 @@ const NULLIFICATION_BITS: u32 = 30;
 
 const KIND_BITS: u32 = 2;
 
-// The fourth kind is refused by its own number.
+// The fourth kind is refused by its own number; a kind above it does not fit its field.
 pub fn kind_refusal(kind: u8) -> u8
     ensures { λ r. ⌜ r ≡ kindRefusal kind ⌝ }
 {
@@ -30,7 +33,8 @@ pub fn kind_refusal(kind: u8) -> u8
         0 => 0,
         1 => 0,
         2 => 0,
-        _ => KIND_THREE,
+        3 => KIND_THREE,
+        _ => KIND_DOES_NOT_FIT,
     }
 }
 
