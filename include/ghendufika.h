@@ -222,7 +222,9 @@ typedef struct {
 
 typedef struct {
     uint8_t answer;
-    size_t length;        /* of the message; 0 exactly where it is unreadable (19 to 22) */
+    uint8_t kind;         /* of an accepted notification: GHENDUFIKA_INITIAL, ..; else 0 */
+    uint16_t slot;        /* that holds its identifier; else 0 */
+    size_t length;        /* bytes that the message takes; 0 with every refusal: ask ghendufika_message_length to go on after one */
     ghendufika_book book; /* after it; as it came with a refusal */
 } ghendufika_applied;
 
@@ -311,8 +313,8 @@ ghendufika_notified ghendufika_notify(ghendufika_book book, ghendufika_notificat
 /* A nullification: 1, 2, 15, 9. Where nothing stands it is still 0. */
 uint8_t ghendufika_nullify(ghendufika_book book, ghendufika_nullification nullification, const uint32_t *held, size_t slots, int32_t *side1, size_t lent1, int32_t *side2, size_t lent2);
 
-/* One packed message: 19 to 22 as in reading first, then what the book answers. The length is given with the book's refusals too, since the next
- * message starts there. */
+/* One packed message: 1, then 19 to 22 as in reading, then what the book answers. With any refusal kind, slot and length are 0; where the message
+ * was read, the next one starts ghendufika_message_length bytes on. */
 ghendufika_applied ghendufika_apply(ghendufika_book book, const uint8_t *bytes, size_t length, uint32_t *held, size_t slots, int32_t *side1, size_t lent1, int32_t *side2, size_t lent2);
 
 /* Packed messages one after the other, until the bytes end, one is unreadable (its answer is the last) or `answers` is full. Where the last

@@ -17,10 +17,11 @@ use Rattle.meaning.specs.Books as Meaning
 use Rattle.meaning.specs.Soundness.{sound}
 use Rattle.meaning.specs.Calls.{Call, gate, message, gateRules}
 use Rattle.meaning.specs.History.{standing, decides, after, eventsOf}
-use Rattle.meaning.specs.PackedCalls.{Applied, applied, Run, callsIn, runOn}
+use Rattle.meaning.specs.PackedCalls.{applied, Run, callsIn, runOn}
 use Rattle.meaning.proofs.Contracts.{contracts-lawful}
 use Rattle.meaning.proofs.History.{after-sound, history, SameBook, same-book, after-same}
-use Rattle.meaning.proofs.PackedCalls.{after-append, applied-is-calls, run-is-calls, run-sound, run-unsound}
+use Rattle.meaning.proofs.PackedCalls.{after-append, run-is-calls, run-sound, run-unsound}
+use Rattle.meaning.proofs.Applied.{unsound-after, applied-is-calls}
 use Rattle.setups.specs.declared.Setup.{Setup}
 use Rattle.setups.specs.Structs.{setupOf}
 use Rattle.messages.specs.declared.Notification.{Notification}
@@ -38,9 +39,9 @@ use Rattle.calls.specs.Answers.{afterCall, bookAt}
 use Rattle.calls.specs.declared.Notified.{Notified}
 use Rattle.calls.specs.declared.Applied as Structs
 use Rattle.calls.specs.declared.AppliedAll.{AppliedAll}
-use Rattle.calls.proofs.CallLaws.{unsound-stays, message-clock, nullification-held}
+use Rattle.calls.proofs.CallLaws.{message-clock, nullification-held}
 use Rattle.calls.proofs.Promises.{Notifies, Nullifies, Applies, AppliesAll}
-use Rattle.calls.proofs.RunLaws.{applied-same, holds-book}
+use Rattle.calls.proofs.RunLaws.{holds-book}
 
 -- a book by value and its lent tables, and the book that they hold
 pub record State : Type 0 where
@@ -100,20 +101,15 @@ module _ (s : State) where
       → bookOf (r .book) h l1 l2 ≡ after (whole s) (callsIn 1 bytes)
   applied-leaves bytes r h l1 l2 p =
       let w = applied (whole s) bytes .book in
+      let e = applied-is-calls (whole s) bytes in
       rw (ap (λ (x : Structs.Applied). x .book) (p .0), p .1, p .2, p .3)
-      (holds-book (s .book) (s .held) (s .side1) (s .side2) w (applied-same (whole s) bytes) ∙ applied-is-calls (whole s) bytes)
-
-  -- tables that are no sound book refuse every call
-  unsound-after : (calls : List (Call contracts)) → sound (whole s) ≡ false → after (whole s) calls ≡ whole s
-  unfolding after run
-  unsound-after [] e = refl
-  unsound-after (c ∷ calls) e = rw (unsound-stays (whole s) c e) (unsound-after calls e)
+      (holds-book (s .book) (s .held) (s .side1) (s .side2) w (rw e (after-same (whole s) (callsIn 1 bytes))) ∙ e)
 
   run-calls : (room : ℕ) (bytes : List ℕ) → runOn room (whole s) bytes .book ≡ after (whole s) (callsIn room bytes)
   run-calls room bytes =
       on (sound (whole s))
       (λ e. ap (λ (x : Run). x .book) (run-sound (whole s) room bytes e .1) ∙ run-is-calls room (whole s) bytes)
-      (λ e. ap (λ (x : Run). x .book) (run-unsound (whole s) room bytes e .1) ∙ sym (unsound-after (callsIn room bytes) e))
+      (λ e. ap (λ (x : Run). x .book) (run-unsound (whole s) room bytes e .1) ∙ sym (unsound-after (whole s) e (callsIn room bytes)))
 
   run-leaves : (bytes answers : List ℕ) (r : AppliedAll) (h : List ℕ) (l1 l2 : List ℤ) (left : List ℕ) → AppliesAll (s .book) (s .held) (s .side1) (s .side2) bytes answers r h l1 l2 left
       → bookOf (r .book) h l1 l2 ≡ after (whole s) (callsIn (length answers) bytes)

@@ -11,14 +11,14 @@ use lib.ListN.{length}
 use borrow.Author.Tests.{eq-eqb, ne-eqb}
 use Rattle.meaning.specs.Ledgers.{contracts, Side, one, two, side}
 use Rattle.meaning.specs.Messages as Meant
-use Rattle.meaning.specs.Messages.{Message, notification, nullification, heldAfter, rewritten, written}
+use Rattle.meaning.specs.Messages.{Message, nullification, heldAfter, rewritten, written}
 use Rattle.meaning.specs.Books as Meaning
 use Rattle.meaning.specs.Soundness.{sound}
-use Rattle.meaning.specs.Notifications.{notificationRules}
-use Rattle.meaning.specs.Calls.{Call, gate, message, rulesFor, refusal, gateRules, nullificationRules, accepted, act}
+use Rattle.meaning.specs.Calls.{Call, message, rulesFor, refusal, nullificationRules, accepted, act}
 use Rattle.meaning.specs.History.{after}
 use Rattle.meaning.proofs.SetupRules.{opens}
 use Rattle.meaning.proofs.Sound.{parts}
+use Rattle.meaning.proofs.Applied.{unsound-refused}
 use Rattle.words.specs.Rules.{answer}
 use Rattle.words.specs.Runs.{run}
 use Rattle.laws.proofs.Cases.{on}
@@ -32,12 +32,6 @@ use Rattle.calls.specs.Answers.{afterCall}
 use Rattle.book.specs.Structs.{bookOf}
 use Rattle.book.specs.declared.Book.{Book}
 
-first-rule : (b : Meaning.Book contracts) (c : Call contracts) → sound b ≡ false → refusal b c ≡ 1
-unfolding answer rulesFor gateRules notificationRules nullificationRules
-first-rule b gate e = rw e
-first-rule b (message (notification n)) e = rw e
-first-rule b (message (nullification x)) e = rw e
-
 module _ (b : Meaning.Book contracts) (c : Call contracts) where
   pub call-refused : refusal b c ≢ 0 → afterCall b c ≡ b
   unfolding accepted
@@ -47,12 +41,9 @@ module _ (b : Meaning.Book contracts) (c : Call contracts) where
   unfolding accepted
   call-accepted e = rw (eq-eqb (refusal b c) 0 e)
 
-  -- tables that are no sound book refuse every call by 1, and stay
-  pub unsound-refused : sound b ≡ false → refusal b c ≡ 1
-  unsound-refused e = first-rule b c e
-
+  -- tables that are no sound book stay
   pub unsound-stays : sound b ≡ false → afterCall b c ≡ b
-  unsound-stays e = call-refused (λ z. omega (arith, unsound-refused e, z))
+  unsound-stays e = call-refused (λ z. omega (arith, unsound-refused b e c, z))
 
 -- one call, and then none
 pub after-one : (b : Meaning.Book contracts) (c : Call contracts) → after b (c ∷ []) ≡ afterCall b c

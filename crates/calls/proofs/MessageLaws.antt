@@ -1,14 +1,14 @@
 -- A message by its kind: each kind's own promise is what `do_message` promises of it.
 use mathlib.Core.Bool.{true}
 use mathlib.Core.List.{List}
-use mathlib.Core.Logic.{_≢_}
 use mathlib.Core.Path.{_≡_, refl, sym, ap, _∙_}
-use Prim.Native.Nat.{ℕ, _-_}
+use Prim.Native.Nat.{ℕ, _-_, _≤_}
+use native.Mathlib.Omega.{arith}
 use lib.Dec.{eqb}
 use lib.IntN.{ℤ}
-use borrow.Author.Tests.{ne-eqb}
+use borrow.Author.Tests.{lt-ltb, le-ltb, ne-eqb}
 use Rattle.words.specs.Rules.{answer}
-use Rattle.laws.proofs.Cases.{on}
+use Rattle.laws.proofs.Cases.{on, by-eq}
 use Rattle.words.specs.Runs.{run}
 use Rattle.meaning.specs.Time.{Time}
 use Rattle.meaning.specs.Ledgers.{contracts}
@@ -20,9 +20,10 @@ use Rattle.meaning.specs.Calls as Calls
 use Rattle.meaning.specs.Calls.{Call, message, gateRules, rulesFor, refusal, accepted, act}
 use Rattle.meaning.specs.History.{after}
 use Rattle.meaning.specs.PackedMessages.{Packed, gate, notification, nullification, otherKind}
-use Rattle.meaning.specs.PackedCalls.{callsOf, answerTo}
+use Rattle.meaning.specs.PackedCalls.{callsOf, messageRules, kindGiven, slotGiven}
 use Rattle.messages.specs.declared.Message.{Message}
 use Rattle.messages.specs.Structs.{notificationOf, nullificationOf, messageOf}
+use Rattle.messages.specs.Parts.{kindRefusal}
 use Rattle.book.specs.declared.Book.{Book}
 use Rattle.book.specs.declared.Gated.{Gated}
 use Rattle.book.specs.Answers.{nextAnswer, oneClosed, gated}
@@ -30,6 +31,7 @@ use Rattle.book.specs.Structs.{bookOf}
 use Rattle.book.proofs.GateLaws.{gate-sound, gated-steps}
 use Rattle.calls.specs.Answers.{afterCall, afterMessage, bookAt, notifiedOf, messageDone}
 use Rattle.calls.specs.declared.Notified.{Notified}
+use Rattle.calls.specs.declared.sound_book.Done.{Done}
 use Rattle.calls.proofs.CallLaws.{after-one, message-clock, nullification-held}
 use Rattle.calls.proofs.NotifyLaws.{notified-number, notification-answer}
 use Rattle.calls.proofs.Promises.{Notifies, Nullifies}
@@ -49,22 +51,23 @@ module _ (m : Message) where
   unfolding messageOf
   kind-nullification e = rw e
 
-  pub kind-other : m .kind ≢ 0 → m .kind ≢ 1 → m .kind ≢ 2 → messageOf m ≡ otherKind (m .kind - 3)
+  pub kind-other : 3 ≤ m .kind → messageOf m ≡ otherKind (m .kind - 3)
   unfolding messageOf
-  kind-other n0 n1 n2 = rw (ne-eqb (m .kind) 0 n0, ne-eqb (m .kind) 1 n1, ne-eqb (m .kind) 2 n2)
+  kind-other l = rw (ne-eqb (m .kind) 0 (λ e. omega arith), ne-eqb (m .kind) 1 (λ e. omega arith), ne-eqb (m .kind) 2 (λ e. omega arith))
 
 -- ---- what a message leaves, as `do_message` promises it
 
-abbrev pub Does : Book → Meaning.Book contracts → Packed → Gated → List ℕ → List ℤ → List ℤ → Type 0
+abbrev pub Does : Book → Meaning.Book contracts → Packed → Done → List ℕ → List ℤ → List ℤ → Type 0
 Does b before m r h l1 l2 =
     let left = afterMessage before m .ledger in
     (r ≡ messageDone b before m) × (h ≡ left .held) × (l1 ≡ left .side1) × (l2 ≡ left .side2)
 
--- by the answer, the gates closed and the tables
-done-by : (b : Book) (before w : Meaning.Book contracts) (m : Packed) (a : ℕ) (h : List ℕ) (l1 l2 : List ℤ)
-    → afterMessage before m ≡ w → a ≡ answerTo before m → w .time .closed ≡ b .closed → h ≡ w .ledger .held → l1 ≡ w .ledger .side1 → l2 ≡ w .ledger .side2
-    → Does b before m (record { answer = a; book = b }) h l1 l2
-done-by b before w m a h l1 l2 e p q r s t = rw (e, q) (rw p refl, r, s, t)
+-- by the answer with kind and slot, the gates closed and the tables
+done-by : (b : Book) (before w : Meaning.Book contracts) (m : Packed) (told : Notified) (h : List ℕ) (l1 l2 : List ℤ)
+    → afterMessage before m ≡ w → told ≡ record { answer = answer (messageRules before m); kind = kindGiven before m; slot = slotGiven before m }
+    → w .time .closed ≡ b .closed → h ≡ w .ledger .held → l1 ≡ w .ledger .side1 → l2 ≡ w .ledger .side2
+    → Does b before m (record { answer = told .answer; kind = told .kind; slot = told .slot; book = b }) h l1 l2
+done-by b before w m told h l1 l2 e p q r s t = rw (e, q) (rw p refl, r, s, t)
 
 module _ (b : Book) (held : List ℕ) (side1 side2 : List ℤ) where
   abbrev whole : Meaning.Book contracts
@@ -85,36 +88,48 @@ module _ (b : Book) (held : List ℕ) (side1 side2 : List ℤ) where
   gate-clock : gated b (answer (gateRules whole)) .book .closed ≡ afterCall whole Calls.gate .time .closed
   gate-clock = ap (λ (w : Meaning.Book contracts). w .time .closed) (gated-steps b held side1 side2)
 
-  pub does-gate : sound whole ≡ true → Does b whole gate (gated b (nextAnswer b)) held side1 side2
-  unfolding answerTo callsOf rulesFor
-  does-gate s =
-      rw (gate-number s, after-one whole Calls.gate, gate-tables)
-      (gated-book (answer (gateRules whole)) ∙ ap (λ (k : ℕ). record { answer = answer (gateRules whole); book = record { setup = b .setup; closed = k } }) gate-clock, refl, refl, refl)
+  pub does-gate : sound whole ≡ true → (g : Gated) → g ≡ gated b (nextAnswer b)
+      → Does b whole gate (record { answer = g .answer; kind = 0; slot = 0; book = g .book }) held side1 side2
+  unfolding messageRules kindGiven slotGiven callsOf rulesFor
+  does-gate s g p =
+      let number = answer (gateRules whole) in
+      let closed : g ≡ record { answer = number; book = record { setup = b .setup; closed = afterCall whole Calls.gate .time .closed } } =
+      p ∙ ap (gated b) (gate-number s) ∙ gated-book number ∙ ap (λ (k : ℕ). record { answer = number; book = record { setup = b .setup; closed = k } }) gate-clock in
+      rw (after-one whole Calls.gate, gate-tables)
+      (ap (λ (x : Gated). record { answer = x .answer; kind = 0; slot = 0; book = x .book }) closed, refl, refl, refl)
 
   module _ (m : Message) where
     pub does-notification : (r : Notified) (h : List ℕ) (l1 l2 : List ℤ) → Notifies b held side1 side2 (m .notification) r h l1 l2
-        → Does b whole (notification (notificationOf (m .notification))) (record { answer = r .answer; book = b }) h l1 l2
-    unfolding answerTo callsOf
+        → Does b whole (notification (notificationOf (m .notification))) (record { answer = r .answer; kind = r .kind; slot = r .slot; book = b }) h l1 l2
+    unfolding messageRules kindGiven slotGiven callsOf
     does-notification r h l1 l2 p =
         let n = notificationOf (m .notification) in
-        done-by b whole (afterCall whole (message (Meant.notification n))) (notification n) (r .answer) h l1 l2
+        done-by b whole (afterCall whole (message (Meant.notification n))) (notification n) r h l1 l2
         (after-one whole (message (Meant.notification n)))
-        (ap (λ (x : Notified). x .answer) (p .0) ∙ notified-number whole n ∙ notification-answer whole n)
+        (p .0 ∙ ap (λ (k : ℕ). record { answer = k; kind = notified whole n .kind; slot = notified whole n .slot }) (notified-number whole n ∙ notification-answer whole n))
         (ap (λ (t : Time). t .closed) (message-clock whole (Meant.notification n)))
         (p .1) (p .2) (p .3)
 
     pub does-nullification : (r : ℕ) (l1 l2 : List ℤ) → Nullifies b held side1 side2 (m .nullification) r l1 l2
-        → Does b whole (nullification (nullificationOf (m .nullification))) (record { answer = r; book = b }) held l1 l2
-    unfolding answerTo callsOf
+        → Does b whole (nullification (nullificationOf (m .nullification))) (record { answer = r; kind = 0; slot = 0; book = b }) held l1 l2
+    unfolding messageRules kindGiven slotGiven callsOf
     does-nullification r l1 l2 p =
         let x = nullificationOf (m .nullification) in
-        done-by b whole (afterCall whole (message (Meant.nullification x))) (nullification x) r held l1 l2
+        done-by b whole (afterCall whole (message (Meant.nullification x))) (nullification x) (record { answer = r; kind = 0; slot = 0 }) held l1 l2
         (after-one whole (message (Meant.nullification x)))
-        (p .0)
+        (ap (λ (k : ℕ). record { answer = k; kind = 0; slot = 0 }) (p .0))
         (ap (λ (t : Time). t .closed) (message-clock whole (Meant.nullification x)))
         (sym (nullification-held whole x)) (p .1) (p .2)
 
-  -- a message of another kind does nothing
-  pub does-nothing : (k : ℕ) → Does b whole (otherKind k) (record { answer = 20; book = b }) held side1 side2
-  unfolding answerTo callsOf after run
-  does-nothing k = (refl, refl, refl, refl)
+  -- a message of another kind does nothing: 20 for the fourth, 23 for those above it
+  other-answer : (kind : ℕ) → 3 ≤ kind → sound whole ≡ true → kindRefusal kind ≡ answer (messageRules whole (otherKind (kind - 3)))
+  unfolding answer messageRules
+  other-answer kind l s =
+      by-eq kind 3
+      (λ e. rw (e, s))
+      (λ n. rw (le-ltb kind 3 l, ne-eqb kind 3 n, s, ne-eqb (kind - 3) 0 (omega arith), lt-ltb 0 (kind - 3) (omega arith)))
+
+  pub does-nothing : (kind number : ℕ) → 3 ≤ kind → sound whole ≡ true → number ≡ kindRefusal kind
+      → Does b whole (otherKind (kind - 3)) (record { answer = number; kind = 0; slot = 0; book = b }) held side1 side2
+  unfolding kindGiven slotGiven callsOf after run
+  does-nothing kind number l s e = (ap (λ (k : ℕ). record { answer = k; kind = 0; slot = 0; book = b }) (e ∙ other-answer kind l s), refl, refl, refl)

@@ -1,58 +1,52 @@
 -- Calls on tables that are no sound book, and a packed message by its reading.
-use mathlib.Core.Bool.{false}
+use mathlib.Core.Bool.{true, false}
 use mathlib.Core.List.{List}
 use mathlib.Core.Logic.{_≢_}
 use mathlib.Core.Path.{_≡_, refl, sym, ap, _∙_}
-use Prim.Native.Nat.{ℕ, _<_}
+use Prim.Native.Nat.{ℕ}
 use native.Mathlib.Omega.{arith}
 use lib.IntN.{ℤ}
-use Rattle.words.specs.Runs.{run}
+use Rattle.words.specs.Rules.{answer}
 use Rattle.meaning.specs.Ledgers.{contracts}
 use Rattle.meaning.specs.Messages as Meant
 use Rattle.meaning.specs.Books as Meaning
 use Rattle.meaning.specs.Soundness.{sound}
-use Rattle.meaning.specs.Calls as Calls
 use Rattle.meaning.specs.Calls.{message}
-use Rattle.meaning.specs.History.{after}
-use Rattle.meaning.specs.PackedMessages.{Packed, gate, notification, nullification, otherKind, kindOf, readMessage}
-use Rattle.meaning.specs.PackedCalls.{callsOf, answerTo}
-use Rattle.meaning.proofs.MessageValues.{message-again}
-use Rattle.meaning.proofs.PackedCalls.{applied-read, applied-unread}
-use Rattle.meaning.proofs.PackedMessageRules.{reading-answer, reading-done, readable}
+use Rattle.meaning.specs.PackedMessages.{Packed, readMessage}
+use Rattle.meaning.specs.PackedCalls.{messageRules}
+use Rattle.meaning.proofs.PackedCalls.{stepped-read, stepped-unread}
+use Rattle.meaning.proofs.Applied.{unsound-refused, message-refused, applied-unsound, applied-unread, applied-refused, applied-done}
 use Rattle.messages.specs.declared.Notification.{Notification}
 use Rattle.messages.specs.declared.Nullification.{Nullification}
-use Rattle.messages.specs.Structs.{notificationOf, nullificationOf}
+use Rattle.messages.specs.Structs.{notificationOf, nullificationOf, messageOf}
+use Rattle.message_reading.specs.declared.MessageRead.{MessageRead}
+use Rattle.message_reading.specs.Structs.{messageRead}
+use Rattle.message_reading.proofs.ReadAgain.{read-message-again}
 use Rattle.book.specs.declared.Book.{Book}
-use Rattle.book.specs.declared.Gated.{Gated}
 use Rattle.book.specs.Structs.{bookOf}
 use Rattle.calls.specs.Answers.{notifiedOf}
-use Rattle.calls.proofs.CallLaws.{unsound-refused, unsound-stays}
+use Rattle.calls.specs.declared.Applied.{Applied}
+use Rattle.calls.specs.declared.sound_book.Done.{Done}
+use Rattle.calls.proofs.CallLaws.{unsound-stays}
 use Rattle.calls.proofs.NotifyLaws.{unsound-answer, notified-refused}
 use Rattle.calls.proofs.MessageLaws.{Does}
-use Rattle.calls.proofs.Promises.{Notifies, Nullifies, Applies}
+use Rattle.calls.proofs.Promises.{Notifies, Nullifies, Applies, Steps}
+
+-- ---- what was read
+
+module _ (bytes : List ℕ) {r : MessageRead} (e : r ≡ messageRead (readMessage bytes)) where
+  pub read-answer : r .answer ≡ readMessage bytes .answer
+  unfolding messageRead
+  read-answer = ap (λ (x : MessageRead). x .answer) e
+
+  pub read-length : r .length ≡ readMessage bytes .length
+  unfolding messageRead
+  read-length = ap (λ (x : MessageRead). x .length) e
+
+  pub read-meant : readMessage bytes .answer ≡ 0 → messageOf (r .message) ≡ readMessage bytes .read
+  read-meant z = ap (λ (x : MessageRead). messageOf (x .message)) e ∙ read-message-again bytes z
 
 -- ---- tables that are no sound book
-
-unsound-answers : (b : Meaning.Book contracts) (m : Packed) → kindOf m < 3 → sound b ≡ false → answerTo b m ≡ 1
-unfolding answerTo
-unsound-answers b gate k e = unsound-refused b Calls.gate e
-unsound-answers b (notification n) k e = unsound-refused b (message (Meant.notification n)) e
-unsound-answers b (nullification x) k e = unsound-refused b (message (Meant.nullification x)) e
-unsound-answers b (otherKind j) k e = absurd (omega arith)
-
-unsound-left : (b : Meaning.Book contracts) (m : Packed) → sound b ≡ false → after b (callsOf m) ≡ b
-unfolding callsOf after run
-unsound-left b gate e = unsound-stays b Calls.gate e
-unsound-left b (notification n) e = unsound-stays b (message (Meant.notification n)) e
-unsound-left b (nullification x) e = unsound-stays b (message (Meant.nullification x)) e
-unsound-left b (otherKind j) e = refl
-
--- bytes that are read hold one of the three kinds
-read-kind : (bytes : List ℕ) → readMessage bytes .answer ≡ 0 → kindOf (readMessage bytes .read) < 3
-read-kind bytes e =
-    let a = sym (reading-answer bytes) ∙ e in
-    let r = readable bytes a in
-    rw (reading-done bytes a, message-again bytes (r .kind) .kind) (r .kind)
 
 module _ (b : Book) (held : List ℕ) (side1 side2 : List ℤ) where
   abbrev whole : Meaning.Book contracts
@@ -72,26 +66,60 @@ module _ (b : Book) (held : List ℕ) (side1 side2 : List ℤ) where
   unsound-nullifies x e =
       let call = message (Meant.nullification (nullificationOf x)) in
       let stays = sym (unsound-stays whole call e) in (
-        sym (unsound-refused whole call e),
+        sym (unsound-refused whole e call),
         ap (λ (w : Meaning.Book contracts). w .ledger .side1) stays,
         ap (λ (w : Meaning.Book contracts). w .ledger .side2) stays,
       )
 
-  -- ---- a packed message: unreadable, refused by 1, or done
-
   module _ (bytes : List ℕ) where
-    pub unread-applies : readMessage bytes .answer ≢ 0
-        → Applies b held side1 side2 bytes (record { answer = readMessage bytes .answer; length = 0; book = b }) held side1 side2
-    unread-applies n = rw (applied-unread bytes whole n) (refl, refl, refl, refl)
+    abbrev read : Packed
+    read = readMessage bytes .read
 
-    pub unsound-applies : readMessage bytes .answer ≡ 0 → sound whole ≡ false
-        → Applies b held side1 side2 bytes (record { answer = 1; length = readMessage bytes .length; book = b }) held side1 side2
-    unsound-applies r e =
-        rw (applied-read bytes whole r, unsound-answers whole (readMessage bytes .read) (read-kind bytes r) e, unsound-left whole (readMessage bytes .read) e)
-        (refl, refl, refl, refl)
+    -- ---- a packed message: no sound book, unreadable, refused by the book, or done
 
-    pub done-applies : readMessage bytes .answer ≡ 0 → (r : Gated) (h : List ℕ) (l1 l2 : List ℤ) → Does b whole (readMessage bytes .read) r h l1 l2
-        → Applies b held side1 side2 bytes (record { answer = r .answer; length = readMessage bytes .length; book = r .book }) h l1 l2
-    done-applies e r h l1 l2 d =
-        rw (applied-read bytes whole e)
-        (ap (λ (g : Gated). record { answer = g .answer; length = readMessage bytes .length; book = g .book }) (d .0), d .1, d .2, d .3)
+    abbrev refusedBy : ℕ → Applied
+    refusedBy number = record { answer = number; kind = 0; slot = 0; length = 0; book = b }
+
+    pub unsound-applies : sound whole ≡ false → Applies b held side1 side2 bytes (refusedBy 1) held side1 side2
+    unsound-applies e = rw (applied-unsound whole bytes e) (refl, refl, refl, refl)
+
+    module _ (s : sound whole ≡ true) where
+      pub unread-applies : readMessage bytes .answer ≢ 0 → Applies b held side1 side2 bytes (refusedBy (readMessage bytes .answer)) held side1 side2
+      unread-applies n = rw (applied-unread whole bytes s n) (refl, refl, refl, refl)
+
+      module _ (e : readMessage bytes .answer ≡ 0) (d : Done) (h : List ℕ) (l1 l2 : List ℤ) (does : Does b whole read d h l1 l2) where
+        number : d .answer ≡ answer (messageRules whole read)
+        number = ap (λ (x : Done). x .answer) (does .0)
+
+        pub refused-applies : d .answer ≢ 0 → Applies b held side1 side2 bytes (refusedBy (d .answer)) h l1 l2
+        refused-applies n =
+            let no : answer (messageRules whole read) ≢ 0 = λ z. n (number ∙ z) in
+            let stays = message-refused whole read no in
+            rw (applied-refused whole bytes s e no) (
+              ap refusedBy number,
+              does .1 ∙ ap (λ (w : Meaning.Book contracts). w .ledger .held) stays,
+              does .2 ∙ ap (λ (w : Meaning.Book contracts). w .ledger .side1) stays,
+              does .3 ∙ ap (λ (w : Meaning.Book contracts). w .ledger .side2) stays,
+            )
+
+        pub done-applies : d .answer ≡ 0
+            → Applies b held side1 side2 bytes (record { answer = 0; kind = d .kind; slot = d .slot; length = readMessage bytes .length; book = d .book }) h l1 l2
+        done-applies z =
+            rw (applied-done whole bytes s e (sym number ∙ z)) (
+              ap (λ (x : Done). record { answer = 0; kind = x .kind; slot = x .slot; length = readMessage bytes .length; book = x .book }) (does .0),
+              does .1,
+              does .2,
+              does .3,
+            )
+
+    -- ---- a step of a run: unreadable, or read
+
+    pub unread-steps : readMessage bytes .answer ≢ 0
+        → Steps b held side1 side2 bytes (record { answer = readMessage bytes .answer; length = 0; book = b }) held side1 side2
+    unread-steps n = rw (stepped-unread bytes whole n) (refl, refl, refl, refl)
+
+    pub read-steps : readMessage bytes .answer ≡ 0 → (d : Done) (h : List ℕ) (l1 l2 : List ℤ) → Does b whole read d h l1 l2
+        → Steps b held side1 side2 bytes (record { answer = d .answer; length = readMessage bytes .length; book = d .book }) h l1 l2
+    read-steps e d h l1 l2 does =
+        rw (stepped-read bytes whole e)
+        (ap (λ (x : Done). record { answer = x .answer; length = readMessage bytes .length; book = x .book }) (does .0), does .1, does .2, does .3)

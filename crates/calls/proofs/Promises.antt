@@ -8,16 +8,17 @@ use lib.Seq.{sets}
 use Rattle.meaning.specs.Messages.{notification, nullification}
 use Rattle.meaning.specs.Notifications.{notified}
 use Rattle.meaning.specs.Calls.{message, refusal}
-use Rattle.meaning.specs.PackedCalls.{applied, runAnswer, runOn}
+use Rattle.meaning.specs.PackedCalls.{applied, stepped, runAnswer, runOn}
 use Rattle.messages.specs.declared.Notification.{Notification}
 use Rattle.messages.specs.declared.Nullification.{Nullification}
 use Rattle.messages.specs.Structs.{notificationOf, nullificationOf}
 use Rattle.book.specs.declared.Book.{Book}
 use Rattle.book.specs.Structs.{bookOf}
-use Rattle.calls.specs.Answers.{afterCall, notifiedOf, appliedOf, ranOf}
+use Rattle.calls.specs.Answers.{afterCall, notifiedOf, appliedOf, steppedOf, ranOf}
 use Rattle.calls.specs.declared.Notified.{Notified}
 use Rattle.calls.specs.declared.Applied.{Applied}
 use Rattle.calls.specs.declared.AppliedAll.{AppliedAll}
+use Rattle.calls.specs.declared.packed.Stepped.{Stepped}
 
 module _ (b : Book) (held : List ℕ) (side1 side2 : List ℤ) where
   abbrev pub Notifies : Notification → Notified → List ℕ → List ℤ → List ℤ → Type 0
@@ -36,6 +37,12 @@ module _ (b : Book) (held : List ℕ) (side1 side2 : List ℤ) where
   Applies bytes r h l1 l2 =
       let whole = applied (bookOf b held side1 side2) bytes in
       (r ≡ appliedOf b whole) × (h ≡ whole .book .ledger .held) × (l1 ≡ whole .book .ledger .side1) × (l2 ≡ whole .book .ledger .side2)
+
+  -- a step of a run, on a book that is known to be sound
+  abbrev pub Steps : List ℕ → Stepped → List ℕ → List ℤ → List ℤ → Type 0
+  Steps bytes r h l1 l2 =
+      let whole = stepped (bookOf b held side1 side2) bytes in
+      (r ≡ steppedOf b whole) × (h ≡ whole .book .ledger .held) × (l1 ≡ whole .book .ledger .side1) × (l2 ≡ whole .book .ledger .side2)
 
   abbrev pub AppliesAll : List ℕ → List ℕ → AppliedAll → List ℕ → List ℤ → List ℤ → List ℕ → Type 0
   AppliesAll bytes answers r h l1 l2 left =

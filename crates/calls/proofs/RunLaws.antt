@@ -14,17 +14,16 @@ use Rattle.meaning.specs.Ledgers.{contracts}
 use Rattle.meaning.specs.Books as Meaning
 use Rattle.meaning.specs.Soundness.{sound}
 use Rattle.meaning.specs.PackedMessages.{readMessage}
-use Rattle.meaning.specs.PackedCalls as PackedCalls
-use Rattle.meaning.specs.PackedCalls.{callsOf, applied, Run, nothingRun, appliedAll}
+use Rattle.meaning.specs.PackedCalls.{callsOf, Step, stepped, Run, nothingRun, appliedAll}
 use Rattle.meaning.proofs.History.{SameBook, same-book, after-same}
-use Rattle.meaning.proofs.PackedCalls.{read-takes, applied-read, applied-unread, unread-stays, takes-read, applied-sound, no-room, bytes-ended, unreadable, one-more}
+use Rattle.meaning.proofs.PackedCalls.{read-takes, stepped-read, stepped-unread, unread-stays, takes-read, stepped-sound, no-room, bytes-ended, unreadable, one-more}
 use Rattle.setups.specs.declared.Setup.{Setup}
 use Rattle.book.specs.declared.Book.{Book}
 use Rattle.book.specs.Structs.{bookOf}
 use Rattle.calls.specs.Answers.{bookAt, ranOf}
-use Rattle.calls.specs.declared.Applied.{Applied}
 use Rattle.calls.specs.declared.AppliedAll.{AppliedAll}
-use Rattle.calls.proofs.Promises.{Applies}
+use Rattle.calls.specs.declared.packed.Stepped.{Stepped}
+use Rattle.calls.proofs.Promises.{Steps}
 
 -- ---- what is done and what is ahead
 
@@ -71,13 +70,13 @@ ahead-none {total} {rest} {answers₀} {answers} {used} {done} b after w a e p =
 pub rest-part : (bytes : List ℕ) (k : ℕ) → take (length bytes - k) (drop k bytes) ≡ drop k bytes
 rest-part bytes k = ap (λ (n : ℕ). take n (drop k bytes)) (sym (length-drop k bytes)) ∙ take-length (drop k bytes)
 
--- ---- the book by value beside the tables holds what a packed message leaves
+-- ---- the book by value beside the tables holds what a step leaves
 
-pub applied-same : (w : Meaning.Book contracts) (bytes : List ℕ) → SameBook w (applied w bytes .book)
-applied-same w bytes =
+pub stepped-same : (w : Meaning.Book contracts) (bytes : List ℕ) → SameBook w (stepped w bytes .book)
+stepped-same w bytes =
     by-eq (readMessage bytes .answer) 0
-    (λ e. rw (applied-read bytes w e) (after-same w (callsOf (readMessage bytes .read))))
-    (λ n. rw (applied-unread bytes w n) (same-book w))
+    (λ e. rw (stepped-read bytes w e) (after-same w (callsOf (readMessage bytes .read))))
+    (λ n. rw (stepped-unread bytes w n) (same-book w))
 
 -- its days, accounts and authorisations are those that it came with
 pub holds-book : (b : Book) (held : List ℕ) (side1 side2 : List ℤ) (w : Meaning.Book contracts) → SameBook (bookOf b held side1 side2) w
@@ -130,8 +129,8 @@ module _ (bytes : List ℕ) (b : Book) (held₀ : List ℕ) (side1₀ side2₀ :
     abbrev current : Meaning.Book contracts
     current = bookOf now held side1 side2
 
-    abbrev one : PackedCalls.Applied
-    one = applied current (drop used bytes)
+    abbrev one : Step
+    one = stepped current (drop used bytes)
 
     -- the book that the run came with, and the gates that are closed now
     now-book : (w : Meaning.Book contracts) → bookAt now w ≡ bookAt b w
@@ -145,14 +144,14 @@ module _ (bytes : List ℕ) (b : Book) (held₀ : List ℕ) (side1₀ side2₀ :
       next-room = omega arith
 
       -- an unreadable message ends it
-      pub running-last : (a : Applied) (h : List ℕ) (l1 l2 : List ℤ) → Applies now held side1 side2 (drop used bytes) a h l1 l2 → a .length ≡ 0
+      pub running-last : (a : Stepped) (h : List ℕ) (l1 l2 : List ℤ) → Steps now held side1 side2 (drop used bytes) a h l1 l2 → a .length ≡ 0
           → Ran (record { answer = 0; done = done + 1; used = used; book = a .book }) h l1 l2 (set answers done (a .answer))
       running-last a h l1 l2 p e =
-          let none : one .length ≡ 0 = sym (ap (λ (x : Applied). x .length) (p .0)) ∙ e in
-          let stays : one .book ≡ current = ap (λ (x : PackedCalls.Applied). x .book) (applied-unread (drop used bytes) current (unread-stays (drop used bytes) current none)) in
+          let none : one .length ≡ 0 = sym (ap (λ (x : Stepped). x .length) (p .0)) ∙ e in
+          let stays : one .book ≡ current = ap (λ (x : Step). x .book) (stepped-unread (drop used bytes) current (unread-stays (drop used bytes) current none)) in
           let rest = ap (λ (k : ℕ). appliedAll k current (drop used bytes)) next-room ∙ unreadable current (drop used bytes) (length answers₀ - (done + 1)) not-empty none in
-          let answered : a .answer ≡ one .answer = ap (λ (x : Applied). x .answer) (p .0) in
-          let left = ahead-none b (a .book) current (ahead-one (nothingRun current) (one .answer) 0 (r .ahead) rest) refl (ap (λ (x : Applied). x .book) (p .0) ∙ ap (bookAt now) stays ∙ now-book current) in
+          let answered : a .answer ≡ one .answer = ap (λ (x : Stepped). x .answer) (p .0) in
+          let left = ahead-none b (a .book) current (ahead-one (nothingRun current) (one .answer) 0 (r .ahead) rest) refl (ap (λ (x : Stepped). x .book) (p .0) ∙ ap (bookAt now) stays ∙ now-book current) in
           let at-last : used + 0 ≡ used = omega arith in (
             sym (ap (λ (k : ℕ). record { answer = 0; done = done + 1; used = k; book = a .book }) at-last) ∙ left .0,
             p .1 ∙ ap (λ (w : Meaning.Book contracts). w .ledger .held) stays ∙ left .1,
@@ -162,31 +161,31 @@ module _ (bytes : List ℕ) (b : Book) (held₀ : List ℕ) (side1₀ side2₀ :
           )
 
       -- a message that is read takes some of the bytes
-      pub takes-some : (a : Applied) (h : List ℕ) (l1 l2 : List ℤ) → Applies now held side1 side2 (drop used bytes) a h l1 l2 → used + a .length ≤ length bytes
+      pub takes-some : (a : Stepped) (h : List ℕ) (l1 l2 : List ℤ) → Steps now held side1 side2 (drop used bytes) a h l1 l2 → used + a .length ≤ length bytes
       takes-some a h l1 l2 p =
-          let taken : a .length ≡ one .length = ap (λ (x : Applied). x .length) (p .0) in
+          let taken : a .length ≡ one .length = ap (λ (x : Stepped). x .length) (p .0) in
           by-eq (one .length) 0
           (λ z. omega (arith, taken, z))
           (λ n.
           let e = takes-read (drop used bytes) current n in
-          omega (arith, taken, ap (λ (x : PackedCalls.Applied). x .length) (applied-read (drop used bytes) current e), read-takes (drop used bytes) e .1, length-drop used bytes))
+          omega (arith, taken, ap (λ (x : Step). x .length) (stepped-read (drop used bytes) current e), read-takes (drop used bytes) e .1, length-drop used bytes))
 
-      pub running-one : (a : Applied) (h : List ℕ) (l1 l2 : List ℤ) → Applies now held side1 side2 (drop used bytes) a h l1 l2 → a .length ≢ 0
+      pub running-one : (a : Stepped) (h : List ℕ) (l1 l2 : List ℤ) → Steps now held side1 side2 (drop used bytes) a h l1 l2 → a .length ≢ 0
           → length h ≡ length held → length l1 ≡ length side1 → length l2 ≡ length side2
           → Running bytes b held₀ side1₀ side2₀ answers₀ h l1 l2 (set answers done (a .answer)) (a .book) (used + a .length) (done + 1)
       running-one a h l1 l2 p n k0 k1 k2 =
-          let taken : a .length ≡ one .length = ap (λ (x : Applied). x .length) (p .0) in
-          let answered : a .answer ≡ one .answer = ap (λ (x : Applied). x .answer) (p .0) in
-          let book : a .book ≡ bookAt now (one .book) = ap (λ (x : Applied). x .book) (p .0) in
+          let taken : a .length ≡ one .length = ap (λ (x : Stepped). x .length) (p .0) in
+          let answered : a .answer ≡ one .answer = ap (λ (x : Stepped). x .answer) (p .0) in
+          let book : a .book ≡ bookAt now (one .book) = ap (λ (x : Stepped). x .book) (p .0) in
           let left : bookOf (a .book) h l1 l2 ≡ one .book =
-          rw (book, p .1, p .2, p .3) (holds-book now held side1 side2 (one .book) (applied-same current (drop used bytes))) in
+          rw (book, p .1, p .2, p .3) (holds-book now held side1 side2 (one .book) (stepped-same current (drop used bytes))) in
           let rest =
           ap (λ (k : ℕ). appliedAll k current (drop used bytes)) next-room
           ∙ one-more current (drop used bytes) (length answers₀ - (done + 1)) not-empty (λ z. n (taken ∙ z)) in
           let later : drop (one .length) (drop used bytes) ≡ drop (used + a .length) bytes = drop-drop (one .length) used bytes ∙ ap (λ (k : ℕ). drop (used + k) bytes) (sym taken) in
           let more : Run = appliedAll (length answers₀ - (done + 1)) (one .book) (drop (one .length) (drop used bytes)) in
           record {
-            is-sound = rw left (applied-sound (drop used bytes) current (r .is-sound));
+            is-sound = rw left (stepped-sound (drop used bytes) current (r .is-sound));
             same-setup = ap (λ (x : Book). x .setup) book ∙ r .same-setup;
             used-few = takes-some a h l1 l2 p;
             done-few = omega arith;

@@ -1,12 +1,8 @@
 -- What the calls on a book give with an answer, which is 0 where the call is accepted, and what they leave.
-use mathlib.Core.Bool.{Bool, not, _&&_, _||_}
-use mathlib.Core.List.{List}
 use Prim.Native.Nat.{ℕ}
 use lib.ListN.{length}
-use Rattle.words.specs.Tests.{_<?_, _≤?_, _=?_}
 use Rattle.words.specs.Runs.{step}
-use Rattle.words.specs.Rules.{Rule, _when_else_, done}
-use Rattle.meaning.specs.Time.{nextDay, everyGateClosed}
+use Rattle.words.specs.Rules.{answer}
 use Rattle.meaning.specs.Ledgers.{contracts}
 use Rattle.meaning.specs.Books as Meaning
 use Rattle.meaning.specs.Notifications as Notifications
@@ -14,13 +10,12 @@ use Rattle.meaning.specs.Calls.{Call, accepted, act}
 use Rattle.meaning.specs.History.{event, after}
 use Rattle.meaning.specs.PackedMessages.{Packed}
 use Rattle.meaning.specs.PackedCalls as PackedCalls
-use Rattle.meaning.specs.PackedCalls.{callsOf, answerTo, Run}
-use Rattle.messages.specs.declared.Nullification.{Nullification}
+use Rattle.meaning.specs.PackedCalls.{callsOf, messageRules, kindGiven, slotGiven, Step, Run}
 use Rattle.book.specs.declared.Book.{Book}
-use Rattle.book.specs.declared.Gated.{Gated}
-use Rattle.book.specs.Structs.{timeIn}
 use Rattle.calls.specs.declared.Notified.{Notified}
 use Rattle.calls.specs.declared.Applied.{Applied}
+use Rattle.calls.specs.declared.sound_book.Done.{Done}
+use Rattle.calls.specs.declared.packed.Stepped.{Stepped}
 use Rattle.calls.specs.declared.AppliedAll.{AppliedAll}
 
 -- ---- a call as meaning has it: what an accepted one makes of the book; a refused one changes nothing
@@ -42,11 +37,16 @@ notifiedOf r = record { answer = r .answer; kind = r .kind; slot = r .slot }
 
 -- ---- packed messages
 
-abbrev pub messageDone : Book → Meaning.Book contracts → Packed → Gated
-messageDone b before m = record { answer = answerTo before m; book = bookAt b (afterMessage before m) }
+abbrev pub messageDone : Book → Meaning.Book contracts → Packed → Done
+messageDone b before m =
+    record { answer = answer (messageRules before m); kind = kindGiven before m; slot = slotGiven before m; book = bookAt b (afterMessage before m) }
 
 abbrev pub appliedOf : Book → PackedCalls.Applied → Applied
-appliedOf b a = record { answer = a .answer; length = a .length; book = bookAt b (a .book) }
+appliedOf b a = record { answer = a .answer; kind = a .kind; slot = a .slot; length = a .length; book = bookAt b (a .book) }
+
+-- a step of a run
+abbrev pub steppedOf : Book → Step → Stepped
+steppedOf b s = record { answer = s .answer; length = s .length; book = bookAt b (s .book) }
 
 -- a run with its answer
 abbrev pub ranOf : Book → ℕ → Run → AppliedAll

@@ -12,10 +12,13 @@ pub struct Notified {
     pub slot: u16,
 }
 
-// The length is that of the message, 0 where the bytes are unreadable. With a refusal the book is as it came.
+// Kind and slot are those of an accepted notification, 0 of any other message; the length is that of the message. With a refusal the three are 0,
+// and the book is as it came.
 #[repr(C)]
 pub struct Applied {
     pub answer: u8,
+    pub kind: u8,
+    pub slot: u16,
     pub length: usize,
     pub book: book::Book,
 }

@@ -10,50 +10,56 @@ ghost use mathlib.Core.Path.{_≡_};
 ghost use lib.ListN.{length};
 ghost use lib.Seq.{sets};
 ghost use Rattle.meaning.specs.Soundness.{sound};
-ghost use Rattle.meaning.specs.PackedCalls.{applied, appliedAll, runAnswer, runOn};
+ghost use Rattle.meaning.specs.PackedCalls.{applied, stepped, appliedAll, runAnswer, runOn};
 ghost use Rattle.book.specs.Structs.{bookOf};
-ghost use Rattle.calls.specs.Answers.{appliedOf, ranOf};
+ghost use Rattle.calls.specs.Answers.{appliedOf, steppedOf, ranOf};
 
-// The message at the front of the bytes, done where the book is known to be sound and refused by 1 where it is known not to be.
-fn apply_known(
-    b: Book,
-    bytes: &[u8],
-    known: bool,
-    held: &mut [u32],
-    side1: &mut [i32],
-    side2: &mut [i32],
-) -> Applied
-    requires { ⌜ known ≡ sound (bookOf b (now held) (now side1) (now side2)) ⌝ }
+struct Stepped {
+    answer: u8,
+    length: usize,
+    book: Book,
+}
+
+// A run's step on a book that is known to be sound. A message that is read takes its bytes, whatever the book answers.
+fn step(b: Book, bytes: &[u8], held: &mut [u32], side1: &mut [i32], side2: &mut [i32]) -> Stepped
+    requires { ⌜ sound (bookOf b (now held) (now side1) (now side2)) ≡ true ⌝ }
     ensures { λ r. do
-      let whole = applied (bookOf b (now (held .entry)) (now (side1 .entry)) (now (side2 .entry))) (now (bytes .entry))
-      ⌜ (r ≡ appliedOf b whole) × (now (held .exit) ≡ whole .book .ledger .held) × (now (side1 .exit) ≡ whole .book .ledger .side1) × (now (side2 .exit) ≡ whole .book .ledger .side2) ⌝ }
+      let whole = stepped (bookOf b (now (held .entry)) (now (side1 .entry)) (now (side2 .entry))) (now (bytes .entry))
+      ⌜ (r ≡ steppedOf b whole) × (now (held .exit) ≡ whole .book .ledger .held) × (now (side1 .exit) ≡ whole .book .ledger .side1) × (now (side2 .exit) ≡ whole .book .ledger .side2) ⌝ }
 {
     let read = message_reading::read_message(bytes);
     if read.answer != 0 {
-        return Applied {
+        return Stepped {
             answer: read.answer,
             length: 0,
-            book: b,
-        };
-    }
-    if !known {
-        return Applied {
-            answer: numbers::NOT_SOUND,
-            length: read.length,
             book: b,
         };
     }
     let m = read.message;
     let done = sound_book::do_message(b, m, held, side1, side2);
     let after = done.book;
-    Applied {
+    Stepped {
         answer: done.answer,
         length: read.length,
         book: after,
     }
 }
 
-// The message at the front of the bytes: reading's refusals first, then what the book answers. Its length, the book and the tables after it.
+// With a refusal the book is as it came, and every other result is 0.
+fn not_applied(b: Book, answer: u8) -> Applied
+    ensures { λ r. ⌜ r ≡ record { answer = answer; kind = 0; slot = 0; length = 0; book = b } ⌝ }
+{
+    Applied {
+        answer: answer,
+        kind: 0,
+        slot: 0,
+        length: 0,
+        book: b,
+    }
+}
+
+// The message at the front of the bytes: refused by 1 before anything is read, then by reading, then by what the book answers. An accepted one
+// gives kind, slot and length, and the book and the tables after it.
 pub fn apply(
     b: Book,
     bytes: &[u8],
@@ -66,7 +72,26 @@ pub fn apply(
       ⌜ (r ≡ appliedOf b whole) × (now (held .exit) ≡ whole .book .ledger .held) × (now (side1 .exit) ≡ whole .book .ledger .side1) × (now (side2 .exit) ≡ whole .book .ledger .side2) ⌝ }
 {
     let known = state::is_sound(b, held, side1, side2);
-    apply_known(b, bytes, known, held, side1, side2)
+    if !known {
+        return not_applied(b, numbers::NOT_SOUND);
+    }
+    let read = message_reading::read_message(bytes);
+    if read.answer != 0 {
+        return not_applied(b, read.answer);
+    }
+    let m = read.message;
+    let done = sound_book::do_message(b, m, held, side1, side2);
+    if done.answer != 0 {
+        return not_applied(b, done.answer);
+    }
+    let after = done.book;
+    Applied {
+        answer: 0,
+        kind: done.kind,
+        slot: done.slot,
+        length: read.length,
+        book: after,
+    }
 }
 
 // A run on a book that is known to be sound: each accepted message keeps it so.
@@ -87,7 +112,7 @@ fn run_known(
     let mut used: usize = 0;
     let mut done: usize = 0;
     while (done < answers.len()) & (used < bytes.len()) {
-        let one = apply_known(after, &bytes[used..], true, held, side1, side2);
+        let one = step(after, &bytes[used..], held, side1, side2);
         answers[done] = one.answer;
         done += 1;
         after = one.book;

@@ -1,10 +1,9 @@
 // What a book that is known to be sound does with a message: the private core of every call. The tests of soundness are its callers'.
 use crate::Notified;
 use book::Book;
-use book::Gated;
 use book::gates;
-use book::numbers;
 use book::state;
+use messages::layouts;
 ghost use mathlib.Core.Bool.{true, cond};
 ghost use mathlib.Core.Path.{_≡_};
 ghost use Prim.Native.Nat.{ℕ, suc};
@@ -20,6 +19,14 @@ ghost use Rattle.messages.specs.Structs.{notificationOf, nullificationOf, messa
 ghost use Rattle.book.specs.Structs.{bookOf};
 ghost use Rattle.calls.specs.Answers.{afterCall, afterMessage, notifiedOf, messageDone};
 ghost use Rattle.effects.specs.Effects.{slotRule};
+
+// What a message did. With a refusal kind and slot are 0, and the book is as it came.
+pub(crate) struct Done {
+    pub answer: u8,
+    pub kind: u8,
+    pub slot: u16,
+    pub book: Book,
+}
 
 pub(crate) fn refused(answer: u8) -> Notified
     ensures { λ r. ⌜ r ≡ record { answer = answer; kind = 0; slot = 0 } ⌝ }
@@ -119,14 +126,14 @@ pub(crate) fn do_nullification(
     0
 }
 
-// A message by its kind. A fourth kind is refused by its own number; a reader gives none.
+// A message by its kind. A fourth kind is refused by its own number, and so are those above it; a reader gives none.
 pub(crate) fn do_message(
     b: Book,
     m: messages::Message,
     held: &mut [u32],
     side1: &mut [i32],
     side2: &mut [i32],
-) -> Gated
+) -> Done
     requires { ⌜ sound (bookOf b (now held) (now side1) (now side2)) ≡ true ⌝ }
     ensures { λ r. do
       let before = bookOf b (now (held .entry)) (now (side1 .entry)) (now (side2 .entry))
@@ -135,23 +142,38 @@ pub(crate) fn do_message(
 {
     let kind = m.kind;
     match kind {
-        0 => gates::close_next(b),
+        0 => {
+            let gate = gates::close_next(b);
+            let after = gate.book;
+            Done {
+                answer: gate.answer,
+                kind: 0,
+                slot: 0,
+                book: after,
+            }
+        }
         1 => {
             let told = do_notification(b, m.notification, held, side1, side2);
-            Gated {
+            Done {
                 answer: told.answer,
+                kind: told.kind,
+                slot: told.slot,
                 book: b,
             }
         }
         2 => {
             let answer = do_nullification(b, m.nullification, held, side1, side2);
-            Gated {
+            Done {
                 answer: answer,
+                kind: 0,
+                slot: 0,
                 book: b,
             }
         }
-        _ => Gated {
-            answer: numbers::NO_SUCH_KIND,
+        _ => Done {
+            answer: layouts::kind_refusal(kind),
+            kind: 0,
+            slot: 0,
             book: b,
         },
     }

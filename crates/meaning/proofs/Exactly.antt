@@ -12,8 +12,10 @@ use Rattle.meaning.specs.Calls.{gateRules, nullificationRules}
 use Rattle.meaning.specs.Totals.{totalRules, figuresRules}
 use Rattle.meaning.specs.Bars.{markRules}
 use Rattle.meaning.specs.Rows.{rowRules}
-use Rattle.meaning.specs.PackedMessages.{Packed, readingRules, writingRules}
+use Rattle.meaning.specs.PackedMessages.{Packed, readingRules, readMessage, writingRules}
+use Rattle.meaning.specs.PackedCalls.{applyRules}
 use Rattle.meaning.specs.PackedSetups.{setupReadingRules, setupWritingRules}
+use Rattle.meaning.proofs.Applied.{numbered-message}
 
 -- ---- opening and the calls
 
@@ -58,6 +60,11 @@ module _ (b : Book contracts) where
 pub reading-exactly : (bytes : List ℕ) → Exactly (readingRules bytes)
 unfolding readingRules
 reading-exactly bytes = exactly (readingRules bytes) refl
+
+-- a packed message done to a book: the book's own test, reading's rules, and those of what was read
+pub apply-exactly : (b : Book contracts) (bytes : List ℕ) → Exactly (applyRules b bytes)
+unfolding applyRules readingRules
+apply-exactly b bytes = exactly (applyRules b bytes) (numbered-message b (readMessage bytes .read))
 
 pub writing-exactly : (m : Packed) (room : ℕ) → Exactly (writingRules m room)
 unfolding writingRules

@@ -41,6 +41,7 @@ pub mod EntryValues
 pub mod MessageValues
 pub mod PackedMessageRules
 pub mod PackedCalls
+pub mod Applied
 pub mod LayoutSizes
 pub mod ReadMore
 pub mod EitherWayMessages

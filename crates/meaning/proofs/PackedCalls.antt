@@ -1,4 +1,4 @@
--- A packed message and a run of them, opened; a run is the calls that its bytes hold; and soundness is kept throughout.
+-- A run of packed messages, opened step by step; it is the calls that its bytes hold; and soundness is kept throughout.
 use mathlib.Core.Bool.{true, false}
 use mathlib.Core.List.{List, [], _∷_, _++_, append-nil}
 use mathlib.Core.Logic.{_≢_}
@@ -7,6 +7,7 @@ use Prim.Native.Nat.{ℕ, zero, suc, _+_, _≤_, _<_}
 use native.Mathlib.Omega.{arith}
 use lib.ListN.{length, drop}
 use borrow.Author.Tests.{eq-eqb, ne-eqb}
+use Rattle.words.specs.Rules.{answer}
 use Rattle.words.specs.Runs.{run}
 use Rattle.laws.proofs.Cases.{by-eq}
 use Rattle.laws.proofs.Runs.{run-append, run-keeps}
@@ -16,7 +17,7 @@ use Rattle.meaning.specs.Soundness.{sound}
 use Rattle.meaning.specs.Calls.{Call, accepted, act}
 use Rattle.meaning.specs.History.{event, after}
 use Rattle.meaning.specs.PackedMessages.{readMessage}
-use Rattle.meaning.specs.PackedCalls.{callsOf, answerTo, Applied, applied, Run, nothingRun, appliedAll, runAnswer, runOn, callsIn}
+use Rattle.meaning.specs.PackedCalls.{callsOf, messageRules, Step, stepped, Run, nothingRun, appliedAll, runAnswer, runOn, callsIn}
 use Rattle.meaning.proofs.Contracts.{contracts-lawful}
 use Rattle.meaning.proofs.Keeps.{keeps-sound}
 use Rattle.meaning.proofs.PackedMessageRules.{reading-answer, reading-done, readable, layout-begins}
@@ -33,7 +34,7 @@ unfolding after
 calls-keep-sound b cs s =
     run-keeps accepted act event (λ (x : Book contracts). sound x ≡ true) (λ x c a e. keeps-sound contracts-lawful x c a e) cs b s
 
--- ---- one packed message
+-- ---- a step of a run
 
 module _ (bytes : List ℕ) where
   -- a message that is read takes a byte or more, and no more than there are
@@ -43,28 +44,28 @@ module _ (bytes : List ℕ) where
       rw (reading-done bytes a) (omega (arith, layout-begins bytes), readable bytes a .whole)
 
   module _ (b : Book contracts) where
-    pub applied-read : readMessage bytes .answer ≡ 0
-        → applied b bytes ≡ record { answer = answerTo b (readMessage bytes .read); length = readMessage bytes .length; book = after b (callsOf (readMessage bytes .read)) }
-    unfolding applied
-    applied-read e = rw (eq-eqb (readMessage bytes .answer) 0 e)
+    pub stepped-read : readMessage bytes .answer ≡ 0
+        → stepped b bytes ≡ record { answer = answer (messageRules b (readMessage bytes .read)); length = readMessage bytes .length; book = after b (callsOf (readMessage bytes .read)) }
+    unfolding stepped
+    stepped-read e = rw (eq-eqb (readMessage bytes .answer) 0 e)
 
-    pub applied-unread : readMessage bytes .answer ≢ 0 → applied b bytes ≡ record { answer = readMessage bytes .answer; length = 0; book = b }
-    unfolding applied
-    applied-unread n = rw (ne-eqb (readMessage bytes .answer) 0 n)
+    pub stepped-unread : readMessage bytes .answer ≢ 0 → stepped b bytes ≡ record { answer = readMessage bytes .answer; length = 0; book = b }
+    unfolding stepped
+    stepped-unread n = rw (ne-eqb (readMessage bytes .answer) 0 n)
 
     -- it takes no byte exactly where it is unreadable, and then leaves the book
-    pub unread-stays : applied b bytes .length ≡ 0 → readMessage bytes .answer ≢ 0
-    unread-stays e a = omega (arith, read-takes a .0, sym (ap (λ (x : Applied). x .length) (applied-read a)) ∙ e)
+    pub unread-stays : stepped b bytes .length ≡ 0 → readMessage bytes .answer ≢ 0
+    unread-stays e a = omega (arith, read-takes a .0, sym (ap (λ (x : Step). x .length) (stepped-read a)) ∙ e)
 
-    pub takes-read : applied b bytes .length ≢ 0 → readMessage bytes .answer ≡ 0
+    pub takes-read : stepped b bytes .length ≢ 0 → readMessage bytes .answer ≡ 0
     takes-read n =
-        by-eq (readMessage bytes .answer) 0 (λ e. e) (λ u. absurd (n (ap (λ (x : Applied). x .length) (applied-unread u))))
+        by-eq (readMessage bytes .answer) 0 (λ e. e) (λ u. absurd (n (ap (λ (x : Step). x .length) (stepped-unread u))))
 
-    pub applied-sound : sound b ≡ true → sound (applied b bytes .book) ≡ true
-    applied-sound s =
+    pub stepped-sound : sound b ≡ true → sound (stepped b bytes .book) ≡ true
+    stepped-sound s =
         by-eq (readMessage bytes .answer) 0
-        (λ e. ap (λ (x : Applied). sound (x .book)) (applied-read e) ∙ calls-keep-sound b (callsOf (readMessage bytes .read)) s)
-        (λ u. ap (λ (x : Applied). sound (x .book)) (applied-unread u) ∙ s)
+        (λ e. ap (λ (x : Step). sound (x .book)) (stepped-read e) ∙ calls-keep-sound b (callsOf (readMessage bytes .read)) s)
+        (λ u. ap (λ (x : Step). sound (x .book)) (stepped-unread u) ∙ s)
 
 -- ---- a run of packed messages
 
@@ -78,20 +79,20 @@ module _ (b : Book contracts) (bytes : List ℕ) where
   bytes-ended zero e = refl
   bytes-ended (suc room) e = rw (eq-eqb (length bytes) 0 e)
 
-  pub unreadable : (room : ℕ) → length bytes ≢ 0 → applied b bytes .length ≡ 0
-      → appliedAll (suc room) b bytes ≡ record { answers = applied b bytes .answer ∷ []; used = 0; book = b }
+  pub unreadable : (room : ℕ) → length bytes ≢ 0 → stepped b bytes .length ≡ 0
+      → appliedAll (suc room) b bytes ≡ record { answers = stepped b bytes .answer ∷ []; used = 0; book = b }
   unfolding appliedAll
-  unreadable room n e = rw (ne-eqb (length bytes) 0 n, eq-eqb (applied b bytes .length) 0 e)
+  unreadable room n e = rw (ne-eqb (length bytes) 0 n, eq-eqb (stepped b bytes .length) 0 e)
 
-  pub one-more : (room : ℕ) → length bytes ≢ 0 → applied b bytes .length ≢ 0 → let rest = appliedAll room (applied b bytes .book) (drop (applied b bytes .length) bytes) in
+  pub one-more : (room : ℕ) → length bytes ≢ 0 → stepped b bytes .length ≢ 0 → let rest = appliedAll room (stepped b bytes .book) (drop (stepped b bytes .length) bytes) in
       appliedAll (suc room) b bytes
-      ≡ record { answers = applied b bytes .answer ∷ rest .answers; used = applied b bytes .length + rest .used; book = rest .book }
+      ≡ record { answers = stepped b bytes .answer ∷ rest .answers; used = stepped b bytes .length + rest .used; book = rest .book }
   unfolding appliedAll
-  one-more room n m = rw (ne-eqb (length bytes) 0 n, ne-eqb (applied b bytes .length) 0 m)
+  one-more room n m = rw (ne-eqb (length bytes) 0 n, ne-eqb (stepped b bytes .length) 0 m)
 
 -- the calls of a run, opened in the same way
 module _ (bytes : List ℕ) (room : ℕ) where
-  calls-unread : readMessage bytes .answer ≢ 0 → callsIn (suc room) bytes ≡ []
+  pub calls-unread : readMessage bytes .answer ≢ 0 → callsIn (suc room) bytes ≡ []
   unfolding callsIn
   calls-unread n = rw (ne-eqb (readMessage bytes .answer) 0 n)
 
@@ -103,7 +104,13 @@ calls-none : (bytes : List ℕ) → callsIn 0 bytes ≡ []
 unfolding callsIn
 calls-none bytes = refl
 
-after-none : (b : Book contracts) → after b [] ≡ b
+-- with room for one answer, those of the first message
+pub calls-one : (bytes : List ℕ) → readMessage bytes .answer ≡ 0 → callsIn 1 bytes ≡ callsOf (readMessage bytes .read)
+calls-one bytes e =
+    let m = readMessage bytes .read in
+    calls-more bytes 0 e ∙ ap (λ (cs : List (Call contracts)). callsOf m ++ cs) (calls-none (drop (readMessage bytes .length) bytes)) ∙ append-nil (callsOf m)
+
+pub after-none : (b : Book contracts) → after b [] ≡ b
 unfolding after run
 after-none b = refl
 
@@ -114,7 +121,7 @@ module _ (room : ℕ) (b : Book contracts) (bytes : List ℕ) where
       let stays : appliedAll (suc room) b bytes .book ≡ b =
       by-eq (length bytes) 0
       (λ e. ap (λ (x : Run). x .book) (bytes-ended b bytes (suc room) e))
-      (λ n. ap (λ (x : Run). x .book) (unreadable b bytes room n (ap (λ (x : Applied). x .length) (applied-unread bytes b u)))) in
+      (λ n. ap (λ (x : Run). x .book) (unreadable b bytes room n (ap (λ (x : Step). x .length) (stepped-unread bytes b u)))) in
       stays ∙ sym (ap (after b) (calls-unread bytes room u) ∙ after-none b)
 
   run-read : readMessage bytes .answer ≡ 0
@@ -122,12 +129,12 @@ module _ (room : ℕ) (b : Book contracts) (bytes : List ℕ) where
       → appliedAll (suc room) b bytes .book ≡ after b (callsIn (suc room) bytes)
   run-read e rest =
       let r = readMessage bytes in
-      let one = applied-read bytes b e in
-      let taken : applied b bytes .length ≡ r .length = ap (λ (x : Applied). x .length) one in
+      let one = stepped-read bytes b e in
+      let taken : stepped b bytes .length ≡ r .length = ap (λ (x : Step). x .length) one in
       let takes = read-takes bytes e in
       ap (λ (x : Run). x .book) (one-more b bytes room (λ z. omega arith) (λ z. omega arith))
-      ∙ rest (applied b bytes .book) (drop (applied b bytes .length) bytes)
-      ∙ ap (λ (x : Applied). after (x .book) (callsIn room (drop (x .length) bytes))) one
+      ∙ rest (stepped b bytes .book) (drop (stepped b bytes .length) bytes)
+      ∙ ap (λ (x : Step). after (x .book) (callsIn room (drop (x .length) bytes))) one
       ∙ sym (ap (after b) (calls-more bytes room e) ∙ after-append b (callsOf (r .read)) (callsIn room (drop (r .length) bytes)))
 
 pub run-is-calls : (room : ℕ) (b : Book contracts) (bytes : List ℕ) → appliedAll room b bytes .book ≡ after b (callsIn room bytes)
@@ -137,15 +144,6 @@ run-is-calls (suc room) b bytes =
     by-eq (readMessage bytes .answer) 0
     (λ e. run-read room b bytes e (λ b′ later. run-is-calls room b′ later))
     (λ u. run-unread room b bytes u)
-
--- one packed message is a run with room for one answer
-pub applied-is-calls : (b : Book contracts) (bytes : List ℕ) → applied b bytes .book ≡ after b (callsIn 1 bytes)
-applied-is-calls b bytes =
-    by-eq (readMessage bytes .answer) 0
-    (λ e.
-    ap (λ (x : Applied). x .book) (applied-read bytes b e)
-    ∙ sym (ap (after b) (calls-more bytes 0 e ∙ ap (λ (cs : List (Call contracts)). callsOf (readMessage bytes .read) ++ cs) (calls-none (drop (readMessage bytes .length) bytes)) ∙ append-nil (callsOf (readMessage bytes .read)))))
-    (λ u. ap (λ (x : Applied). x .book) (applied-unread bytes b u) ∙ sym (ap (after b) (calls-unread bytes 0 u) ∙ after-none b))
 
 -- ---- a run on tables that may be no book
 

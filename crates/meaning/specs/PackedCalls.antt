@@ -1,16 +1,19 @@
 -- A packed message done to a book, and a run of packed messages done one after the other ("Bytes after a message belong to the next").
+use mathlib.Core.Bool.{not}
 use mathlib.Core.List.{List, [], _∷_, _++_}
 use Prim.Native.Nat.{ℕ, zero, suc, _+_}
 use lib.ListN.{length, drop}
-use Rattle.words.specs.Tests.{if_then_else_, _=?_}
+use Rattle.words.specs.Tests.{if_then_else_, _<?_, _=?_}
+use Rattle.words.specs.Rules.{Rule, _when_else_, done, answer}
 use Rattle.meaning.specs.Ledgers.{contracts}
 use Rattle.meaning.specs.Messages as Messages
 use Rattle.meaning.specs.Books.{Book}
 use Rattle.meaning.specs.Soundness.{sound}
+use Rattle.meaning.specs.Notifications.{notified}
 use Rattle.meaning.specs.Calls as Calls
-use Rattle.meaning.specs.Calls.{Call, message, refusal}
+use Rattle.meaning.specs.Calls.{Call, message, rulesFor}
 use Rattle.meaning.specs.History.{after}
-use Rattle.meaning.specs.PackedMessages.{Packed, gate, notification, nullification, otherKind, readMessage}
+use Rattle.meaning.specs.PackedMessages.{Packed, gate, notification, nullification, otherKind, readingRules, readMessage}
 
 -- the call that a message makes; one of another kind makes none
 unfoldable pub callsOf : Packed → List (Call contracts)
@@ -19,29 +22,70 @@ callsOf (notification n) = message (Messages.notification n) ∷ []
 callsOf (nullification x) = message (Messages.nullification x) ∷ []
 callsOf (otherKind k) = []
 
--- what the book answers to it; another kind is refused by 20
-unfoldable pub answerTo : Book contracts → Packed → ℕ
-answerTo b gate = refusal b Calls.gate
-answerTo b (notification n) = refusal b (message (Messages.notification n))
-answerTo b (nullification x) = refusal b (message (Messages.nullification x))
-answerTo b (otherKind k) = 20
+-- the refusals that a book has for it, in their order: its kind's own; for a kind that no call has 20, "message kind 3", and 23 where the kind does not
+-- fit its field of 2 bits
+unfoldable pub messageRules : Book contracts → Packed → List Rule
+messageRules b gate = rulesFor b Calls.gate
+messageRules b (notification n) = rulesFor b (message (Messages.notification n))
+messageRules b (nullification x) = rulesFor b (message (Messages.nullification x))
+messageRules b (otherKind k) =
+    1 when not (sound b) else
+    20 when k =? 0 else
+    23 when 0 <? k else
+    done
+
+-- "The answer gives kind and slot": those of a notification; zero for every other message, and with a refusal
+unfoldable pub kindGiven : Book contracts → Packed → ℕ
+kindGiven b gate = 0
+kindGiven b (notification n) = notified b n .kind
+kindGiven b (nullification x) = 0
+kindGiven b (otherKind k) = 0
+
+unfoldable pub slotGiven : Book contracts → Packed → ℕ
+slotGiven b gate = 0
+slotGiven b (notification n) = notified b n .slot
+slotGiven b (nullification x) = 0
+slotGiven b (otherKind k) = 0
 
 -- ---- one packed message
 
+-- 1 comes first, as in every order on a book; then reading's refusals, and then those that the book has for what was read.
+unfoldable pub applyRules : Book contracts → List ℕ → List Rule
+applyRules b bytes = 1 when not (sound b) else (readingRules bytes ++ messageRules b (readMessage bytes .read))
+
 pub record Applied : Type 0 where
+  pub answer : ℕ
+  pub kind : ℕ
+  pub slot : ℕ
+  pub length : ℕ
+  pub book : Book contracts
+
+-- "A refusal leaves all tables .. and the clock unchanged; its other results are zero"
+abbrev pub notApplied : Book contracts → ℕ → Applied
+notApplied b number = record { answer = number; kind = 0; slot = 0; length = 0; book = b }
+
+unfoldable pub applied : Book contracts → List ℕ → Applied
+applied b bytes =
+    let number = answer (applyRules b bytes) in
+    let r = readMessage bytes in
+    if number =? 0
+    then record { answer = 0; kind = kindGiven b (r .read); slot = slotGiven b (r .read); length = r .length; book = after b (callsOf (r .read)) }
+    else notApplied b number
+
+-- ---- a run of packed messages
+
+-- A step of the run: a message that is read takes its bytes, whatever the book answers. What is unreadable takes none, and leaves the book.
+pub record Step : Type 0 where
   pub answer : ℕ
   pub length : ℕ
   pub book : Book contracts
 
--- Reading's refusals come first, and leave length and book. A message that is read takes its bytes, whatever the book answers.
-unfoldable pub applied : Book contracts → List ℕ → Applied
-applied b bytes =
+unfoldable pub stepped : Book contracts → List ℕ → Step
+stepped b bytes =
     let r = readMessage bytes in
     if r .answer =? 0
-    then record { answer = answerTo b (r .read); length = r .length; book = after b (callsOf (r .read)) }
+    then record { answer = answer (messageRules b (r .read)); length = r .length; book = after b (callsOf (r .read)) }
     else record { answer = r .answer; length = 0; book = b }
-
--- ---- a run of packed messages
 
 pub record Run : Type 0 where
   pub answers : List ℕ
@@ -55,7 +99,7 @@ nothingRun b = record { answers = []; used = 0; book = b }
 unfoldable pub appliedAll : ℕ → Book contracts → List ℕ → Run
 appliedAll zero b bytes = nothingRun b
 appliedAll (suc room) b bytes =
-    let one = applied b bytes in
+    let one = stepped b bytes in
     let rest = appliedAll room (one .book) (drop (one .length) bytes) in
     if length bytes =? 0
     then nothingRun b

@@ -15,8 +15,8 @@ use Rattle.laws.proofs.Cases.{on, by-eq, by-lt}
 use Rattle.meaning.specs.Ledgers.{contracts}
 use Rattle.meaning.specs.Books.{Book}
 use Rattle.meaning.specs.PackedMessages.{readMessage}
-use Rattle.meaning.specs.PackedCalls.{Applied, applied, Run, appliedAll}
-use Rattle.meaning.proofs.PackedCalls.{read-takes, applied-read, applied-unread, unread-stays, takes-read, no-room, bytes-ended, unreadable, one-more}
+use Rattle.meaning.specs.PackedCalls.{Step, stepped, Run, appliedAll}
+use Rattle.meaning.proofs.PackedCalls.{read-takes, stepped-read, stepped-unread, unread-stays, takes-read, no-room, bytes-ended, unreadable, one-more}
 use Rattle.meaning.proofs.ReadMore.{read-more}
 use Rattle.printing.specs.Sheet.{runOver}
 use Rattle.printing.specs.Turns.{lastIn, waitsFor, waits, countTold, toldCount, told, goes}
@@ -24,8 +24,8 @@ use Rattle.printing.specs.Turns.{lastIn, waitsFor, waits, countTold, tol
 -- ---- any room that is enough gives the same run
 
 module _ (b : Book contracts) (bytes : List ℕ) where
-  abbrev one : Applied
-  one = applied b bytes
+  abbrev one : Step
+  one = stepped b bytes
 
   -- a message that is read leaves fewer bytes
   fewer : length bytes ≢ 0 → one .length ≢ 0 → length (drop (one .length) bytes) < length bytes
@@ -41,11 +41,11 @@ enough (suc m) (suc n) b bytes h k =
     by-eq (length bytes) 0
     (λ e. bytes-ended b bytes (suc m) e ∙ sym (bytes-ended b bytes (suc n) e))
     (λ s.
-    by-eq (applied b bytes .length) 0
+    by-eq (stepped b bytes .length) 0
     (λ e. unreadable b bytes m s e ∙ sym (unreadable b bytes n s e))
     (λ t.
     let f = fewer b bytes s t in
-    let rest = enough m n (applied b bytes .book) (drop (applied b bytes .length) bytes) (omega (arith, f)) (omega (arith, f)) in
+    let rest = enough m n (stepped b bytes .book) (drop (stepped b bytes .length) bytes) (omega (arith, f)) (omega (arith, f)) in
     one-more b bytes m s t ∙ ap (one-then b bytes) rest ∙ sym (one-more b bytes n s t)))
 
 -- a run that stops before the bytes end was stopped by an answer
@@ -55,7 +55,7 @@ some-answer (suc n) b bytes h u =
     by-eq (length bytes) 0
     (λ e. absurd (omega (arith, u, e)))
     (λ s.
-    by-eq (applied b bytes .length) 0
+    by-eq (stepped b bytes .length) 0
     (λ e. rw (unreadable b bytes n s e) (omega arith))
     (λ t. rw (one-more b bytes n s t) (omega arith)))
 
@@ -166,26 +166,26 @@ module _ (b : Book contracts) (bytes later : List ℕ) (s : length bytes ≢ 0) 
   all-some e = s (omega (arith, e, length-append bytes later))
 
   -- the run of all, its first message apart
-  all-unreadable : applied b all .length ≡ 0 → runOver b all ≡ record { answers = applied b all .answer ∷ []; used = 0; book = b }
+  all-unreadable : stepped b all .length ≡ 0 → runOver b all ≡ record { answers = stepped b all .answer ∷ []; used = 0; book = b }
   unfolding runOver
   all-unreadable e = enough (length all) (suc (length all)) b all (omega arith) (omega arith) ∙ unreadable b all (length all) all-some e
 
-  all-one-more : applied b all .length ≢ 0 → runOver b all ≡ one-then b all (runOver (applied b all .book) (drop (applied b all .length) all))
+  all-one-more : stepped b all .length ≢ 0 → runOver b all ≡ one-then b all (runOver (stepped b all .book) (drop (stepped b all .length) all))
   unfolding runOver
   all-one-more t =
       let f = fewer b all all-some t in
       enough (length all) (suc (length all)) b all (omega arith) (omega arith) ∙ one-more b all (length all) all-some t
-      ∙ ap (one-then b all) (enough (length all) (length (drop (applied b all .length) all)) (applied b all .book) (drop (applied b all .length) all) (omega (arith, f)) (omega arith))
+      ∙ ap (one-then b all) (enough (length all) (length (drop (stepped b all .length) all)) (stepped b all .book) (drop (stepped b all .length) all) (omega (arith, f)) (omega arith))
 
   -- a message that does not end too soon is done alike, whatever is behind it
-  same-one : readMessage bytes .answer ≢ 19 → applied b all ≡ applied b bytes
-  unfolding applied
+  same-one : readMessage bytes .answer ≢ 19 → stepped b all ≡ stepped b bytes
+  unfolding stepped
   same-one n = rw (read-more bytes later n)
 
-  split-unreadable : (r : Run) → applied b bytes .length ≡ 0 → r ≡ record { answers = applied b bytes .answer ∷ []; used = 0; book = b } → Split b bytes later r
+  split-unreadable : (r : Run) → stepped b bytes .length ≡ 0 → r ≡ record { answers = stepped b bytes .answer ∷ []; used = 0; book = b } → Split b bytes later r
   split-unreadable r e q =
-      let a = applied b bytes .answer in
-      let read : a ≡ readMessage bytes .answer = ap (λ (x : Applied). x .answer) (applied-unread bytes b (unread-stays bytes b e)) in
+      let a = stepped b bytes .answer in
+      let read : a ≡ readMessage bytes .answer = ap (λ (x : Step). x .answer) (stepped-unread bytes b (unread-stays bytes b e)) in
       rw q
       (by-eq a 19
       (λ z. record {
@@ -196,24 +196,24 @@ module _ (b : Book contracts) (bytes later : List ℕ) (s : length bytes ≢ 0) 
       let same = same-one (λ w. n (read ∙ w)) in
       record {
         going = λ g. absurd (true≢false (sym g ∙ other-ends a (length bytes) b s n));
-        ended = λ g. all-unreadable (ap (λ (x : Applied). x .length) same ∙ e) ∙ ap (λ (x : Applied). record { answers = x .answer ∷ []; used = 0; book = b }) same;
+        ended = λ g. all-unreadable (ap (λ (x : Step). x .length) same ∙ e) ∙ ap (λ (x : Step). record { answers = x .answer ∷ []; used = 0; book = b }) same;
       }))
 
   -- a message that is read, and the same of the bytes after it
-  split-more : (r rest : Run) → applied b bytes .length ≢ 0 → r ≡ one-then b bytes rest
-      → (rest .used < length (drop (applied b bytes .length) bytes) → 0 < length (rest .answers))
-      → Split (applied b bytes .book) (drop (applied b bytes .length) bytes) later rest → Split b bytes later r
+  split-more : (r rest : Run) → stepped b bytes .length ≢ 0 → r ≡ one-then b bytes rest
+      → (rest .used < length (drop (stepped b bytes .length) bytes) → 0 < length (rest .answers))
+      → Split (stepped b bytes .book) (drop (stepped b bytes .length) bytes) later rest → Split b bytes later r
   split-more r rest t q some p =
-      let k = applied b bytes .length in
-      let a = applied b bytes .answer in
+      let k = stepped b bytes .length in
+      let a = stepped b bytes .answer in
       let e = takes-read bytes b t in
       let same = same-one (zero-not-19 (readMessage bytes .answer) e) in
-      let fits : k ≤ length bytes = rw (applied-read bytes b e) (read-takes bytes e .1) in
+      let fits : k ≤ length bytes = rw (stepped-read bytes b e) (read-takes bytes e .1) in
       let size : length bytes ≡ k + length (drop k bytes) = omega (arith, length-drop k bytes, fits) in
-      let whole : runOver b all ≡ one-then b bytes (runOver (applied b bytes .book) (drop k bytes ++ later)) =
-      all-one-more (λ z. t (sym (ap (λ (x : Applied). x .length) same) ∙ z))
-      ∙ ap (λ (x : Applied). record { answers = x .answer ∷ runOver (x .book) (drop (x .length) all) .answers; used = x .length + runOver (x .book) (drop (x .length) all) .used; book = runOver (x .book) (drop (x .length) all) .book }) same
-      ∙ ap (λ (x : List ℕ). one-then b bytes (runOver (applied b bytes .book) x)) (drop-append-le k bytes later fits) in
+      let whole : runOver b all ≡ one-then b bytes (runOver (stepped b bytes .book) (drop k bytes ++ later)) =
+      all-one-more (λ z. t (sym (ap (λ (x : Step). x .length) same) ∙ z))
+      ∙ ap (λ (x : Step). record { answers = x .answer ∷ runOver (x .book) (drop (x .length) all) .answers; used = x .length + runOver (x .book) (drop (x .length) all) .used; book = runOver (x .book) (drop (x .length) all) .book }) same
+      ∙ ap (λ (x : List ℕ). one-then b bytes (runOver (stepped b bytes .book) x)) (drop-append-le k bytes later fits) in
       let goes-rest : goes false (length bytes) r ≡ goes false (length (drop k bytes)) rest =
       ap (goes false (length bytes)) q ∙ ap (λ (n : ℕ). goes false n (one-then b bytes rest)) size ∙ goes-more a k (length (drop k bytes)) rest some in
       record {
@@ -242,12 +242,12 @@ split (suc n) b bytes later h =
     by-eq (length bytes) 0
     (split-empty (suc n) b bytes later)
     (λ s.
-    by-eq (applied b bytes .length) 0
+    by-eq (stepped b bytes .length) 0
     (λ e. split-unreadable b bytes later s (appliedAll (suc n) b bytes) e (unreadable b bytes n s e))
     (λ t.
     let f = fewer b bytes s t in
-    let rest = drop (applied b bytes .length) bytes in
-    let next = applied b bytes .book in
+    let rest = drop (stepped b bytes .length) bytes in
+    let next = stepped b bytes .book in
     split-more b bytes later s (appliedAll (suc n) b bytes) (appliedAll n next rest) t (one-more b bytes n s t) (some-answer n next rest (omega (arith, f))) (split n next rest later (omega (arith, f)))))
 
 pub in-two : (b : Book contracts) (bytes later : List ℕ) → Split b bytes later (runOver b bytes)

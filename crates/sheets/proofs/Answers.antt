@@ -11,7 +11,7 @@ use Rattle.laws.proofs.Cases.{on, by-eq}
 use Rattle.meaning.specs.Ledgers.{contracts}
 use Rattle.meaning.specs.Books.{Book}
 use Rattle.meaning.specs.Soundness.{sound}
-use Rattle.meaning.specs.PackedCalls.{applied, appliedAll, runOn}
+use Rattle.meaning.specs.PackedCalls.{stepped, appliedAll, runOn}
 use Rattle.meaning.proofs.PackedCalls.{no-room, bytes-ended, unreadable, one-more}
 use Rattle.printing.specs.Turns.{lastIn}
 
@@ -23,9 +23,9 @@ all-few (suc room) b bytes =
     by-eq (length bytes) 0
     (λ e. rw (bytes-ended b bytes (suc room) e) (omega arith))
     (λ s.
-    by-eq (applied b bytes .length) 0
+    by-eq (stepped b bytes .length) 0
     (λ e. rw (unreadable b bytes room s e) (omega arith))
-    (λ t. rw (one-more b bytes room s t) (omega (arith, all-few room (applied b bytes .book) (drop (applied b bytes .length) bytes)))))
+    (λ t. rw (one-more b bytes room s t) (omega (arith, all-few room (stepped b bytes .book) (drop (stepped b bytes .length) bytes)))))
 
 pub few-answers : (room : ℕ) (b : Book contracts) (bytes : List ℕ) → length (runOn room b bytes .answers) ≤ room
 unfolding runOn

@@ -10,7 +10,7 @@ use lib.Dec.{ltb}
 use lib.ListN.{length, drop, length-set}
 use denote.Ref.{now}
 use Rattle.laws.proofs.Cases.{on, and-left, and-right}
-use Rattle.calls.proofs.Promises.{Applies}
+use Rattle.calls.proofs.Promises.{Steps}
 use Rattle.calls.proofs.RunLaws.{rest-part, Running, running-start, running-last, running-one, takes-some, running-full, running-out}
 use Rattle.calls.proofs.packed.run_known.Statement.{statement}
 use Rattle.calls.proofs.packed.run_known.Tie as tie
@@ -41,32 +41,32 @@ module _ (c : tie.In-loop Inv-loop μ-loop) where
       let l = c .before .loop in
       ltb-true (l .used) (length (now (start .args .bytes))) (and-right (ltb (l .done) (length (l .answers))) (ltb (l .used) (length (now (start .args .bytes)))) (c .loop-test .taken))
 
-module _ (c : tie.After-apply-known Inv-loop μ-loop) where
+module _ (c : tie.After-step Inv-loop μ-loop) where
   abbrev turn : tie.In-loop Inv-loop μ-loop
   turn = c .before .before .before .before .before
 
   promised : let l = turn .before .loop in
-      let left = c .apply-known .last .1 .1 .1 in
-      Applies (l .after) (l .held) (l .side1) (l .side2) (drop (l .used) (now (start turn .args .bytes))) (c .apply-known .result) (left .0) (left .1 .0) (left .1 .1 .0)
+      let left = c .step .last .1 .1 in
+      Steps (l .after) (l .held) (l .side1) (l .side2) (drop (l .used) (now (start turn .args .bytes))) (c .step .result) (left .0) (left .1 .0) (left .1 .1 .0)
   promised =
       let l = turn .before .loop in
-      let left = c .apply-known .last .1 .1 .1 in
+      let left = c .step .last .1 .1 in
       subst
-      (λ (rest : List ℕ). Applies (l .after) (l .held) (l .side1) (l .side2) rest (c .apply-known .result) (left .0) (left .1 .0) (left .1 .1 .0))
+      (λ (rest : List ℕ). Steps (l .after) (l .held) (l .side1) (l .side2) rest (c .step .result) (left .0) (left .1 .0) (left .1 .1 .0))
       (rest-part (now (start turn .args .bytes)) (l .used))
-      (c .apply-known .ensures)
+      (c .step .ensures)
 
-sub-apply-known : tie.Need-sub-apply-known Inv-loop μ-loop
-sub-apply-known c = omega (arith, more c)
+sub-step : tie.Need-sub-step Inv-loop μ-loop
+sub-step c = omega (arith, more c)
 
-part-apply-known-start : tie.Need-part-apply-known-start Inv-loop μ-loop
-part-apply-known-start c = omega (arith, more c)
+part-step-start : tie.Need-part-step-start Inv-loop μ-loop
+part-step-start c = omega (arith, more c)
 
-part-apply-known-end : tie.Need-part-apply-known-end Inv-loop μ-loop
-part-apply-known-end c = search needs
+part-step-end : tie.Need-part-step-end Inv-loop μ-loop
+part-step-end c = search needs
 
-apply-known-requires : tie.Need-apply-known-requires Inv-loop μ-loop
-apply-known-requires c κs = sym (c .before .before .before .before .before .loop .inv .is-sound)
+step-requires : tie.Need-step-requires Inv-loop μ-loop
+step-requires c κs = c .before .before .before .before .before .loop .inv .is-sound
 
 slice-write-answers : tie.Need-slice-write-answers Inv-loop μ-loop
 slice-write-answers c =
@@ -94,13 +94,13 @@ returns : tie.Need-returns Inv-loop μ-loop
 returns c =
     let told = c .before .before .before .before .before .before .before in
     let t = turn told in
-    running-last _ _ _ _ _ _ (t .before .loop .inv) (room t) (more t) (told .apply-known .result) _ _ _ (promised told) (c .if1 .taken)
+    running-last _ _ _ _ _ _ (t .before .loop .inv) (room t) (more t) (told .step .result) _ _ _ (promised told) (c .if1 .taken)
 
 add-used : tie.Need-add-used Inv-loop μ-loop
 add-used c =
     let told = c .before .before .before .before .before .before .before .before in
     let t = turn told in
-    let few = takes-some _ _ _ _ _ _ (t .before .loop .inv) (room t) (more t) (told .apply-known .result) _ _ _ (promised told) in
+    let few = takes-some _ _ _ _ _ _ (t .before .loop .inv) (room t) (more t) (told .step .result) _ _ _ (promised told) in
     omega (arith, few)
 
 loop-less : tie.Need-loop-less Inv-loop μ-loop
@@ -112,8 +112,8 @@ loop-again : tie.Need-loop-again Inv-loop μ-loop
 loop-again c =
     let told = c .before .before .before .before .before .before .before .before in
     let t = turn told in
-    running-one _ _ _ _ _ _ (t .before .loop .inv) (room t) (more t) (told .apply-known .result) _ _ _ (promised told) (c .before .if1 .left)
-    (told .apply-known .kept .1 .1 .1 .0) (told .apply-known .kept .1 .1 .1 .1 .0) (told .apply-known .kept .1 .1 .1 .1 .1 .0)
+    running-one _ _ _ _ _ _ (t .before .loop .inv) (room t) (more t) (told .step .result) _ _ _ (promised told) (c .before .if1 .left)
+    (told .step .kept .1 .1 .0) (told .step .kept .1 .1 .1 .0) (told .step .kept .1 .1 .1 .1 .0)
 
 same-length-5 : tie.Need-same-length-5 Inv-loop μ-loop
 same-length-5 c = c .before .loop .inv .held-length
@@ -142,10 +142,10 @@ run-known-spec =
     Inv-loop
     μ-loop
     loop-holds
-    sub-apply-known
-    part-apply-known-start
-    part-apply-known-end
-    apply-known-requires
+    sub-step
+    part-step-start
+    part-step-end
+    step-requires
     slice-write-answers
     add-done
     same-length

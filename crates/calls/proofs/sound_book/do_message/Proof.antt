@@ -1,10 +1,8 @@
 -- One arm for each kind, by that kind's own promise.
 use borrow.Author.Needs.{needs}
-use mathlib.Core.Path.{_≡_, sym}
+use Prim.Native.Nat.{_≤_}
+use native.Mathlib.Omega.{arith}
 use denote.Ref.{now}
-use Rattle.meaning.specs.Ledgers.{contracts}
-use Rattle.meaning.specs.Books as Meaning
-use Rattle.book.specs.Structs.{bookOf}
 use Rattle.calls.proofs.MessageLaws.{kind-gate, kind-notification, kind-nullification, kind-other, does-gate, does-notification, does-nullification, does-nothing}
 use Rattle.calls.proofs.sound_book.do_message.Statement.{statement}
 use Rattle.calls.proofs.sound_book.do_message.Tie as tie
@@ -18,11 +16,16 @@ do-notification-requires c κs = c .before .before .before .before .before .pre
 do-nullification-requires : tie.Need-do-nullification-requires
 do-nullification-requires c κs = c .before .before .before .before .before .pre
 
+kind-refusal-requires : tie.Need-kind-refusal-requires
+kind-refusal-requires c κs = search needs
+
 returns : tie.Need-returns
 returns c =
-    let s = c .before .before .before in
+    let told = c .before in
+    let s = told .before .before .before in
     let a = s .args in
-    rw (kind-gate (a .m) (c .before .match .keys1), c .close-next .ensures) (does-gate (a .b) (now (a .held)) (now (a .side1)) (now (a .side2)) (s .pre))
+    rw (kind-gate (a .m) (told .before .match .keys1))
+    (does-gate (a .b) (now (a .held)) (now (a .side1)) (now (a .side2)) (s .pre) (told .close-next .result) (told .close-next .ensures))
 
 same-length : tie.Need-same-length
 same-length c = search needs
@@ -60,9 +63,12 @@ returns-3 c =
 
 returns-4 : tie.Need-returns-4
 returns-4 c =
-    let a = c .before .before .args in
-    rw (kind-other (a .m) (c .match .rest .0 .0 .1) (c .match .rest .0 .1) (c .match .rest .1))
-    (does-nothing (a .b) (now (a .held)) (now (a .side1)) (now (a .side2)) _)
+    let k = c .before in
+    let s = k .before .before in
+    let a = s .args in
+    let above : 3 ≤ a .m .kind = omega (arith, k .match .rest .0 .0 .1, k .match .rest .0 .1, k .match .rest .1) in
+    rw (kind-other (a .m) above)
+    (does-nothing (a .b) (now (a .held)) (now (a .side1)) (now (a .side2)) (a .m .kind) (c .kind-refusal .result) above (s .pre) (c .kind-refusal .ensures))
 
 pub do-message-spec : {M : Type 1} → statement M
 do-message-spec =
@@ -71,6 +77,7 @@ do-message-spec =
     close-next-requires
     do-notification-requires
     do-nullification-requires
+    kind-refusal-requires
     returns
     same-length
     same-length-2
