@@ -127,7 +127,7 @@ void try_nullify(void) {
     enum answer expected = nullify(&second, &told);
 
     ask("ghendufika_nullify", SAY_TABLES | SAY_NULLIFICATION);
-    uint8_t answer = ghendufika_nullify(before.book, asked.nullification, HELD_TO_READ, SIDES_TO_CHANGE);
+    uint8_t answer = ghendufika_nullify(before.book, asked.nullification.account, asked.nullification.other, asked.nullification.first, HELD_TO_READ, SIDES_TO_CHANGE);
     note(&seen_nullify, answer);
     must(answer == expected, "the answer to a nullification is the second program's");
     check_tables(answer);

@@ -87,10 +87,10 @@ ghendufika_notified faulty_notify(ghendufika_book book, ghendufika_notification 
     return notified;
 }
 
-uint8_t faulty_nullify(ghendufika_book book, ghendufika_nullification nullification, const uint32_t *held, size_t slots, int32_t *side1, size_t lent1, int32_t *side2, size_t lent2) {
+uint8_t faulty_nullify(ghendufika_book book, uint32_t account, uint32_t other, uint32_t first, const uint32_t *held, size_t slots, int32_t *side1, size_t lent1, int32_t *side2, size_t lent2) {
     static int32_t kept[300 * 8 * 50];
     memcpy(kept, side2, lent2 * sizeof kept[0]);
-    uint8_t answer = ghendufika_nullify(book, nullification, held, slots, side1, lent1, side2, lent2);
+    uint8_t answer = ghendufika_nullify(book, account, other, first, held, slots, side1, lent1, side2, lent2);
     if (is("nullification_leaves_side_two")) memcpy(side2, kept, lent2 * sizeof kept[0]);
     if (is("refused_nullification_changes_a_place") && answer == 9) side2[0] = 0;
     if (is("place_before_the_table_is_written")) *(side1 - 1) = 0;

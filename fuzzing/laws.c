@@ -133,7 +133,7 @@ static uint8_t nullify_by_questions(void) {
     asked.nullification.other = (uint8_t)field(GHENDUFIKA_FIELD_OTHER_ACCOUNT);
     asked.nullification.first = (uint16_t)field(GHENDUFIKA_FIELD_FIRST_DAY);
     ask("ghendufika_nullify", SAY_TABLES | SAY_BYTES | SAY_NULLIFICATION);
-    uint8_t answer = ghendufika_nullify(before.book, asked.nullification, HELD_TO_READ, SIDES_TO_CHANGE);
+    uint8_t answer = ghendufika_nullify(before.book, asked.nullification.account, asked.nullification.other, asked.nullification.first, HELD_TO_READ, SIDES_TO_CHANGE);
     note(&seen_nullify, answer);
     return answer;
 }

@@ -7,6 +7,10 @@
  * nothing and always returns. A pointer must point somewhere, also where its length is 0; buffers lent to one call may not overlap; a pointer must
  * be aligned for its type. Lengths count elements, not bytes. Structs go in and come out by value; nothing has to be freed.
  *
+ * Numbers that a call or a question names by themselves (account, day, period, side, originator, reference) are taken as 32 bits and checked, not
+ * cut: account 257 is none (15) and not account 1, and so are day 65,636 and period or side 257 (16), and reference 65,537 (25). The numbers in structs
+ * are narrower; a wider one that C cuts into them is cut before the call.
+ *
  * UNITS. Volumes are whole kWh, from -99,999,999 to 99,999,999. Figures (double) are MWh. Days are day numbers: 0 is 1 January 2000, 65,534 the
  * last; as a last day 65,535 is evergreen, without end. Periods count from 1 to the day's length, 46, 48 or 50. Slots, accounts, authorisations and
  * sides' table places count from 0; the two sides are 1 and 2. Plus is sold and minus bought, seen from account 1 of an authorisation.
@@ -310,8 +314,8 @@ ghendufika_gated ghendufika_close_gate(ghendufika_book book, const uint32_t *hel
 /* A notification: 1 to 14 as numbered. */
 ghendufika_notified ghendufika_notify(ghendufika_book book, ghendufika_notification notification, uint32_t *held, size_t slots, int32_t *side1, size_t lent1, int32_t *side2, size_t lent2);
 
-/* A nullification: 1, 2, 15, 9. Where nothing stands it is still 0. */
-uint8_t ghendufika_nullify(ghendufika_book book, ghendufika_nullification nullification, const uint32_t *held, size_t slots, int32_t *side1, size_t lent1, int32_t *side2, size_t lent2);
+/* A nullification of two accounts, in either order, from a first day on: 1, 2, 15, 9. Where nothing stands it is still 0. */
+uint8_t ghendufika_nullify(ghendufika_book book, uint32_t account, uint32_t other, uint32_t first, const uint32_t *held, size_t slots, int32_t *side1, size_t lent1, int32_t *side2, size_t lent2);
 
 /* One packed message: 1, then 19 to 22 as in reading, then what the book answers. With any refusal kind, slot and length are 0; where the message
  * was read, the next one starts ghendufika_message_length bytes on. */
@@ -324,26 +328,26 @@ ghendufika_applied_all ghendufika_apply_all(ghendufika_book book, const uint8_t 
 /* ---- questions of a book; they change nothing but the buffer that they fill */
 
 /* An account's total in a period, matched volumes only: 1, 15, 16, 26. Plus is sold. */
-ghendufika_totalled ghendufika_total(ghendufika_book book, const uint32_t *held, size_t slots, const int32_t *side1, size_t lent1, const int32_t *side2, size_t lent2, uint8_t account, uint16_t day, uint8_t period);
+ghendufika_totalled ghendufika_total(ghendufika_book book, const uint32_t *held, size_t slots, const int32_t *side1, size_t lent1, const int32_t *side2, size_t lent2, uint32_t account, uint32_t day, uint32_t period);
 
 /* Those of all periods of a day, the first in kwh[0]: 1, 15, 16, and 24 where `room` is less than the day's periods. Places past them stay. */
-uint8_t ghendufika_day_totals(ghendufika_book book, const uint32_t *held, size_t slots, const int32_t *side1, size_t lent1, const int32_t *side2, size_t lent2, uint8_t account, uint16_t day, int64_t *kwh, size_t room);
+uint8_t ghendufika_day_totals(ghendufika_book book, const uint32_t *held, size_t slots, const int32_t *side1, size_t lent1, const int32_t *side2, size_t lent2, uint32_t account, uint32_t day, int64_t *kwh, size_t room);
 
 /* Sold, bought and net MWh of a day: 1, 15, 16. Net is sold less bought, made of whole kWh. */
-ghendufika_figured ghendufika_figures(ghendufika_book book, const uint32_t *held, size_t slots, const int32_t *side1, size_t lent1, const int32_t *side2, size_t lent2, uint8_t account, uint16_t day);
+ghendufika_figured ghendufika_figures(ghendufika_book book, const uint32_t *held, size_t slots, const int32_t *side1, size_t lent1, const int32_t *side2, size_t lent2, uint32_t account, uint32_t day);
 
 /* What an account is shown of an identifier in one period: 1, 25, 15, 16. */
-ghendufika_marked ghendufika_mark(ghendufika_book book, const uint32_t *held, size_t slots, const int32_t *side1, size_t lent1, const int32_t *side2, size_t lent2, uint8_t originator, uint16_t reference, uint8_t account, uint16_t day, uint8_t period);
+ghendufika_marked ghendufika_mark(ghendufika_book book, const uint32_t *held, size_t slots, const int32_t *side1, size_t lent1, const int32_t *side2, size_t lent2, uint32_t originator, uint32_t reference, uint32_t account, uint32_t day, uint32_t period);
 
 /* The same of each period of a day: cases[p] is the bar of period p + 1, with its figures in firsts[p] and seconds[p]: 1, 25, 15, 16, and 24 where
  * one of the buffers is shorter than the day. Places past the day stay. */
-uint8_t ghendufika_day_marks(ghendufika_book book, const uint32_t *held, size_t slots, const int32_t *side1, size_t lent1, const int32_t *side2, size_t lent2, uint8_t originator, uint16_t reference, uint8_t account, uint16_t day, uint8_t *cases, size_t case_room, double *firsts, size_t first_room, double *seconds, size_t second_room);
+uint8_t ghendufika_day_marks(ghendufika_book book, const uint32_t *held, size_t slots, const int32_t *side1, size_t lent1, const int32_t *side2, size_t lent2, uint32_t originator, uint32_t reference, uint32_t account, uint32_t day, uint8_t *cases, size_t case_room, double *firsts, size_t first_room, double *seconds, size_t second_room);
 
 /* Where the row of an identifier's day and side (1 or 2) lies: 1, 25, 16. */
-ghendufika_row_place ghendufika_row(ghendufika_book book, const uint32_t *held, size_t slots, const int32_t *side1, size_t lent1, const int32_t *side2, size_t lent2, uint8_t originator, uint16_t reference, uint16_t day, uint8_t side);
+ghendufika_row_place ghendufika_row(ghendufika_book book, const uint32_t *held, size_t slots, const int32_t *side1, size_t lent1, const int32_t *side2, size_t lent2, uint32_t originator, uint32_t reference, uint32_t day, uint32_t side);
 
 /* That answer alone. */
-uint8_t ghendufika_row_refusal(ghendufika_book book, const uint32_t *held, size_t slots, const int32_t *side1, size_t lent1, const int32_t *side2, size_t lent2, uint8_t originator, uint16_t reference, uint16_t day, uint8_t side);
+uint8_t ghendufika_row_refusal(ghendufika_book book, const uint32_t *held, size_t slots, const int32_t *side1, size_t lent1, const int32_t *side2, size_t lent2, uint32_t originator, uint32_t reference, uint32_t day, uint32_t side);
 
 #ifdef __cplusplus
 }

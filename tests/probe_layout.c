@@ -28,10 +28,10 @@ void close_gate(uint8_t *result, ghendufika_book book, TABLES) __asm__("ghendufi
 registers notify(ghendufika_book book, ghendufika_notification notification, TABLES) __asm__("ghendufika_notify");
 void apply(uint8_t *result, ghendufika_book book, const uint8_t *bytes, size_t length, TABLES) __asm__("ghendufika_apply");
 void apply_all(uint8_t *result, ghendufika_book book, const uint8_t *bytes, size_t length, TABLES, uint8_t *answers, size_t room) __asm__("ghendufika_apply_all");
-registers total(ghendufika_book book, TABLES, uint8_t account, uint16_t day, uint8_t period) __asm__("ghendufika_total");
-void figures(uint8_t *result, ghendufika_book book, TABLES, uint8_t account, uint16_t day) __asm__("ghendufika_figures");
-void mark(uint8_t *result, ghendufika_book book, TABLES, uint8_t originator, uint16_t reference, uint8_t account, uint16_t day, uint8_t period) __asm__("ghendufika_mark");
-void row(uint8_t *result, ghendufika_book book, TABLES, uint8_t originator, uint16_t reference, uint16_t day, uint8_t side) __asm__("ghendufika_row");
+registers total(ghendufika_book book, TABLES, uint32_t account, uint32_t day, uint32_t period) __asm__("ghendufika_total");
+void figures(uint8_t *result, ghendufika_book book, TABLES, uint32_t account, uint32_t day) __asm__("ghendufika_figures");
+void mark(uint8_t *result, ghendufika_book book, TABLES, uint32_t originator, uint32_t reference, uint32_t account, uint32_t day, uint32_t period) __asm__("ghendufika_mark");
+void row(uint8_t *result, ghendufika_book book, TABLES, uint32_t originator, uint32_t reference, uint32_t day, uint32_t side) __asm__("ghendufika_row");
 
 /* ---- what the archive wrote, and where a value is */
 

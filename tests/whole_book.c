@@ -89,19 +89,20 @@ static ghendufika_notified said(unsigned under, unsigned agent, unsigned origina
 
 static uint8_t nullified(unsigned account, unsigned other, unsigned first) {
     ghendufika_message m = {.kind = GHENDUFIKA_NULLIFICATION, .nullification = {.account = (uint8_t)account, .other = (uint8_t)other, .first = (uint16_t)first}};
-    return ghendufika_nullify(book, passed_on(m, 4).nullification, LENT);
+    ghendufika_nullification x = passed_on(m, 4).nullification;
+    return ghendufika_nullify(book, x.account, x.other, x.first, LENT);
 }
 
 /* ---- what is shown */
 
 static void expect_total(int line, unsigned account, unsigned day, int64_t kwh) { /* in period 1 */
-    ghendufika_totalled t = ghendufika_total(book, LENT, (uint8_t)account, (uint16_t)day, 1);
+    ghendufika_totalled t = ghendufika_total(book, LENT, account, day, 1);
     expect(line, "the total's answer", t.answer, 0);
     expect(line, "the total", (double)t.kwh, (double)kwh);
 }
 
 static void expect_mark(int line, unsigned originator, unsigned reference, unsigned account, unsigned day, unsigned bar, double first, double second) { /* of period 1 */
-    ghendufika_marked m = ghendufika_mark(book, LENT, (uint8_t)originator, (uint16_t)reference, (uint8_t)account, (uint16_t)day, 1);
+    ghendufika_marked m = ghendufika_mark(book, LENT, originator, reference, account, day, 1);
     expect(line, "the mark's answer", m.answer, 0);
     expect(line, "the bar", m.bar, bar);
     expect(line, "the first figure", m.first, first);
@@ -110,7 +111,7 @@ static void expect_mark(int line, unsigned originator, unsigned reference, unsig
 
 /* a row of the day's length: period 1 holds `one`, every later period `later` */
 static void expect_row(int line, unsigned originator, unsigned reference, unsigned day, unsigned side, size_t length, int32_t one, int32_t later) {
-    ghendufika_row_place r = ghendufika_row(book, LENT, (uint8_t)originator, (uint16_t)reference, (uint16_t)day, (uint8_t)side);
+    ghendufika_row_place r = ghendufika_row(book, LENT, originator, reference, day, side);
     expect(line, "the row's answer", r.answer, 0);
     expect(line, "the row's length", (double)r.length, (double)length);
     expect(line, "the row inside its table", r.start + r.length <= PLACES, 1);
@@ -339,6 +340,56 @@ static void refused_questions(void) {
     EXPECT("bytes that end", ghendufika_read_message((const uint8_t[]){0x80}, 1).answer, 19);
 }
 
+/* ---- numbers of more than 8 or 16 bits: each is 256 or 65,536 above one that is answered, and none is taken for that one */
+
+static void wide_numbers_of_totals(void) {
+    int64_t kwh[50] = {77};
+    EXPECT("account 257", ghendufika_total(book, LENT, 257, 100, 1).answer, 15);
+    EXPECT("day 65,636", ghendufika_total(book, LENT, 0, 65636, 1).answer, 16);
+    EXPECT("period 257", ghendufika_total(book, LENT, 0, 100, 257).answer, 16);
+    EXPECT("account 257", ghendufika_figures(book, LENT, 257, 100).answer, 15);
+    EXPECT("day 65,636", ghendufika_figures(book, LENT, 0, 65636).answer, 16);
+    EXPECT("account 257", ghendufika_day_totals(book, LENT, 257, 100, kwh, 50), 15);
+    EXPECT("day 65,636", ghendufika_day_totals(book, LENT, 0, 65636, kwh, 50), 16);
+    EXPECT("the buffer", kwh[0], 77);
+}
+
+static void wide_numbers_of_marks(void) {
+    uint8_t cases[50] = {77};
+    double firsts[50] = {77.0}, seconds[50] = {77.0};
+    EXPECT("originator 256", ghendufika_mark(book, LENT, 256, 1, 0, 100, 1).answer, 25);
+    EXPECT("originator 65,536", ghendufika_mark(book, LENT, 65536, 1, 0, 100, 1).answer, 25);
+    EXPECT("reference 65,537", ghendufika_mark(book, LENT, 0, 65537, 0, 100, 1).answer, 25);
+    EXPECT("account 256", ghendufika_mark(book, LENT, 0, 1, 256, 100, 1).answer, 15);
+    EXPECT("day 65,636", ghendufika_mark(book, LENT, 0, 1, 0, 65636, 1).answer, 16);
+    EXPECT("period 257", ghendufika_mark(book, LENT, 0, 1, 0, 100, 257).answer, 16);
+    EXPECT("reference 65,537", ghendufika_day_marks(book, LENT, 0, 65537, 0, 100, cases, 50, firsts, 50, seconds, 50), 25);
+    EXPECT("account 257", ghendufika_day_marks(book, LENT, 0, 1, 257, 100, cases, 50, firsts, 50, seconds, 50), 15);
+    EXPECT("day 65,636", ghendufika_day_marks(book, LENT, 0, 1, 0, 65636, cases, 50, firsts, 50, seconds, 50), 16);
+    EXPECT("the buffers", cases[0] + firsts[0] + seconds[0], 231);
+}
+
+static void wide_numbers_of_rows(void) {
+    EXPECT("reference 65,537", ghendufika_row(book, LENT, 0, 65537, 100, 1).answer, 25);
+    EXPECT("day 65,636", ghendufika_row(book, LENT, 0, 1, 65636, 1).answer, 16);
+    EXPECT("side 257", ghendufika_row(book, LENT, 0, 1, 100, 257).answer, 16);
+    EXPECT("reference 65,537", ghendufika_row_refusal(book, LENT, 0, 65537, 100, 1), 25);
+    EXPECT("day 65,636", ghendufika_row_refusal(book, LENT, 0, 1, 65636, 1), 16);
+    EXPECT("side 257", ghendufika_row_refusal(book, LENT, 0, 1, 100, 257), 16);
+}
+
+static void wide_numbers(void) {
+    p2_agent_9_says_alike();
+    EXPECT("under 1", said(1, 7, 1, 1, 100, 100, 1, 5).answer, 0); /* so that 1/1, which 0/65,537 is not, is held */
+    wide_numbers_of_totals();
+    wide_numbers_of_marks();
+    wide_numbers_of_rows();
+    EXPECT("account 257", ghendufika_nullify(book, 257, 0, 100, LENT), 15);
+    EXPECT("accounts 256 and 257", ghendufika_nullify(book, 256, 257, 100, LENT), 15);
+    EXPECT("first day 65,636", ghendufika_nullify(book, 0, 1, 65636, LENT), 9);
+    TOTAL(0, 100, 5000);
+}
+
 int main(void) {
     p1_agent_7_says_5000();
     p2_agent_9_says_alike();
@@ -355,6 +406,7 @@ int main(void) {
     refused_openings_leave_the_tables();
     refused_writing_leaves_the_buffer();
     refused_questions();
+    wide_numbers();
     printf("whole book: %lu answers as document 01 has them\n", checks);
     return 0;
 }

@@ -1,12 +1,13 @@
--- What is promised of the viewer's questions leaves no choice: two answers that both keep the promise are the same. The exports of books.rt have the
--- promises of the functions that they call, word for word, and their uniqueness stands with those.
+-- What is promised of the viewer's questions leaves no choice: two answers that both keep the promise are the same. The other exports of books.rt have
+-- the promises of the functions that they call, word for word, and their uniqueness stands with those: here are those by identifiers and accounts that
+-- the caller names, and those of packed bytes.
 use mathlib.Core.List.{List}
 use mathlib.Core.Path.{_≡_}
 use Prim.Native.Nat.{ℕ}
+use lib.Ieee.{Float}
 use lib.IntN.{ℤ}
 use Rattle.words.specs.Rules.{answer}
 use Rattle.laws.proofs.Cases.{one-outcome}
-use Rattle.meaning.specs.Ledgers.{identifierOf}
 use Rattle.meaning.specs.PackedMessages.{readingRules, readMessage, writeMessage}
 use Rattle.meaning.specs.PackedSetups.{writeSetup}
 use Rattle.messages.specs.Structs.{messageOf}
@@ -19,14 +20,13 @@ use Rattle.setups.specs.Structs.{setupOf}
 use Rattle.setup_writing.specs.Structs.{setupWritten}
 use Rattle.setups.specs.declared.Setup.{Setup}
 use Rattle.setup_writing.specs.declared.SetupWritten.{SetupWritten}
-use Rattle.book.specs.Structs.{bookOf}
 use Rattle.book.specs.declared.Book.{Book}
-use Rattle.bars.specs.Marks.{marked}
 use Rattle.bars.specs.declared.RowPlace.{RowPlace}
 use Rattle.bars.proofs.PlaceLaws.{Placed}
 use Rattle.questions.specs.Questions.{fieldIn}
-use Rattle.viewer.specs.Numbers.{markNumbers}
+use Rattle.viewer.specs.Asked.{named}
 use Rattle.viewer.specs.declared.MarkNumbers.{MarkNumbers}
+use Rattle.viewer.proofs.Promises.{Nullified, MarkShown, DayMarks, RowRefusal}
 
 -- ---- about message bytes
 
@@ -58,15 +58,32 @@ pub unique-write-setup : (s : Setup) (out : List ℕ) (r r′ : SetupWritten) (l
     → WritesSetup s out r left → WritesSetup s out r′ left′ → (r ≡ r′) × (left ≡ left′)
 unique-write-setup s out r r′ left left′ p q = (one-outcome (p .0) (q .0), one-outcome (p .1) (q .1))
 
--- ---- what is shown of an identifier
+-- ---- what a caller names by numbers of 32 bits
 
-pub unique-mark : (b : Book) (held : List ℕ) (side1 side2 : List ℤ) (originator reference account day period : ℕ) (r r′ : MarkNumbers)
-    → r ≡ markNumbers (marked (bookOf b held side1 side2) (identifierOf originator reference) account day period)
-    → r′ ≡ markNumbers (marked (bookOf b held side1 side2) (identifierOf originator reference) account day period)
-    → r ≡ r′
-unique-mark b held side1 side2 originator reference account day period r r′ = one-outcome
+module _ (b : Book) (held : List ℕ) (side1 side2 : List ℤ) where
+  pub unique-nullify : (account other first r r′ : ℕ) (l1 l1′ l2 l2′ : List ℤ)
+      → Nullified b held side1 side2 account other first r l1 l2 → Nullified b held side1 side2 account other first r′ l1′ l2′ → (r ≡ r′) × (l1 ≡ l1′) × (l2 ≡ l2′)
+  unique-nullify account other first r r′ l1 l1′ l2 l2′ p q = (one-outcome (p .0) (q .0), one-outcome (p .1) (q .1), one-outcome (p .2) (q .2))
 
--- where a row lies; of `rows::row` only what it holds is promised, here its place is too
-pub unique-row : (b : Book) (held : List ℕ) (side1 side2 : List ℤ) (originator reference day side : ℕ) (r r′ : RowPlace)
-    → Placed b held side1 side2 (identifierOf originator reference) day side r → Placed b held side1 side2 (identifierOf originator reference) day side r′ → r ≡ r′
-unique-row b held side1 side2 originator reference day side r r′ p q = one-outcome (p .0) (q .0)
+  module _ (originator reference : ℕ) where
+    abbrev identifier : ℕ
+    identifier = named originator reference
+
+    pub unique-mark : (account day period : ℕ) (r r′ : MarkNumbers)
+        → MarkShown b held side1 side2 identifier account day period r → MarkShown b held side1 side2 identifier account day period r′ → r ≡ r′
+    unique-mark account day period r r′ = one-outcome
+
+    pub unique-day-marks : (account day : ℕ) (cases : List ℕ) (firsts seconds : List Float) (r r′ : ℕ) (c c′ : List ℕ) (f f′ s s′ : List Float)
+        → DayMarks b held side1 side2 identifier account day cases firsts seconds r c f s
+        → DayMarks b held side1 side2 identifier account day cases firsts seconds r′ c′ f′ s′
+        → (r ≡ r′) × (c ≡ c′) × (f ≡ f′) × (s ≡ s′)
+    unique-day-marks account day cases firsts seconds r r′ c c′ f f′ s s′ p q =
+        (one-outcome (p .0) (q .0), one-outcome (p .1) (q .1), one-outcome (p .2) (q .2), one-outcome (p .3) (q .3))
+
+    pub unique-row-refusal : (day side r r′ : ℕ) → RowRefusal b held side1 side2 identifier day side r → RowRefusal b held side1 side2 identifier day side r′ → r ≡ r′
+    unique-row-refusal day side r r′ = one-outcome
+
+    -- where a row lies; of `rows::row` only what it holds is promised, here its place is too
+    pub unique-row : (day side : ℕ) (r r′ : RowPlace)
+        → Placed b held side1 side2 identifier day side r → Placed b held side1 side2 identifier day side r′ → r ≡ r′
+    unique-row day side r r′ p q = one-outcome (p .0) (q .0)

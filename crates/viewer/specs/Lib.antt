@@ -1,2 +1,3 @@
--- What the C viewer is shown.
+-- What the C viewer asks, and what it is shown.
+pub mod Asked
 pub mod Numbers

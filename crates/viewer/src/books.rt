@@ -1,11 +1,11 @@
-// A book from C: a packed setup, opening, packed messages, and what the book shows. Each export takes its arguments apart and calls; the promise
-// is that of the function it calls. include/ghendufika.h declares them.
+// A book from C: a packed setup, opening, packed messages, and what the book shows. Each export takes its arguments apart, narrows the numbers that a
+// caller may get wrong, and calls; the promise is that of the function it calls, at the caller's own numbers. include/ghendufika.h declares them.
+use crate::asked;
 use book::Book;
 ghost use mathlib.Core.Path.{_≡_};
 ghost use lib.ListN.{length};
 ghost use lib.Seq.{sets};
 ghost use Rattle.words.specs.Rules.{answer};
-ghost use Rattle.meaning.specs.Ledgers.{identifierOf};
 ghost use Rattle.meaning.specs.Books.{openingRules};
 ghost use Rattle.meaning.specs.Messages.{notification, nullification};
 ghost use Rattle.meaning.specs.Soundness.{sound};
@@ -17,12 +17,13 @@ ghost use Rattle.meaning.specs.Rows.{rowRules};
 ghost use Rattle.setups.specs.Structs.{setupOf};
 ghost use Rattle.setup_reading.specs.Structs.{setupRead};
 ghost use Rattle.book.specs.Structs.{bookOf};
-ghost use Rattle.messages.specs.Structs.{notificationOf, nullificationOf};
+ghost use Rattle.messages.specs.Structs.{notificationOf};
 ghost use Rattle.book.specs.Answers.{opened, heldOpened, sideOpened, gated};
 ghost use Rattle.calls.specs.Answers.{afterCall, notifiedOf, appliedOf, ranOf};
 ghost use Rattle.position.specs.Totals.{totalled, dayTotalRules, dayTotals, figured};
 ghost use Rattle.shown.specs.Figures.{caseOf, firstOf, secondOf};
 ghost use Rattle.bars.specs.Marks.{dayMarkRules, dayMarked};
+ghost use Rattle.viewer.specs.Asked.{named};
 
 #[no_mangle]
 pub extern "C" fn ghendufika_read_setup(
@@ -88,16 +89,23 @@ pub extern "C" fn ghendufika_notify(
 #[no_mangle]
 pub extern "C" fn ghendufika_nullify(
     b: Book,
-    x: messages::Nullification,
+    account: u32,
+    other: u32,
+    first: u32,
     held: &[u32],
     side1: &mut [i32],
     side2: &mut [i32],
 ) -> u8
     ensures { λ r. do
       let before = bookOf b (now (held .entry)) (now (side1 .entry)) (now (side2 .entry))
-      let call = message (nullification (nullificationOf x))
+      let call = message (nullification (record { account = account; other = other; first = first }))
       ⌜ (r ≡ refusal before call) × (now (side1 .exit) ≡ afterCall before call .ledger .side1) × (now (side2 .exit) ≡ afterCall before call .ledger .side2) ⌝ }
 {
+    let x = messages::Nullification {
+        account: asked::at_most_255(account),
+        other: asked::at_most_255(other),
+        first: asked::at_most_65535(first),
+    };
     calls::nullifications::nullify(b, x, held, side1, side2)
 }
 
@@ -139,12 +147,15 @@ pub extern "C" fn ghendufika_total(
     held: &[u32],
     side1: &[i32],
     side2: &[i32],
-    account: u8,
-    day: u16,
-    period: u8,
+    account: u32,
+    day: u32,
+    period: u32,
 ) -> position::Totalled
     ensures { λ r. ⌜ r ≡ totalled (bookOf b (now (held .entry)) (now (side1 .entry)) (now (side2 .entry))) account day period ⌝ }
 {
+    let account = asked::at_most_255(account);
+    let day = asked::at_most_65535(day);
+    let period = asked::at_most_255(period);
     position::totals::total(b, held, side1, side2, account, day, period)
 }
 
@@ -154,14 +165,16 @@ pub extern "C" fn ghendufika_day_totals(
     held: &[u32],
     side1: &[i32],
     side2: &[i32],
-    account: u8,
-    day: u16,
+    account: u32,
+    day: u32,
     out: &mut [i64],
 ) -> u8
     ensures { λ r. do
       let before = bookOf b (now (held .entry)) (now (side1 .entry)) (now (side2 .entry))
       ⌜ (r ≡ answer (dayTotalRules before account day (length (now (out .entry))))) × (now (out .exit) ≡ dayTotals before account day (now (out .entry))) ⌝ }
 {
+    let account = asked::at_most_255(account);
+    let day = asked::at_most_65535(day);
     position::totals::day_totals(b, held, side1, side2, account, day, out)
 }
 
@@ -171,11 +184,13 @@ pub extern "C" fn ghendufika_figures(
     held: &[u32],
     side1: &[i32],
     side2: &[i32],
-    account: u8,
-    day: u16,
+    account: u32,
+    day: u32,
 ) -> position::Figured
     ensures { λ r. ⌜ r ≡ figured (bookOf b (now (held .entry)) (now (side1 .entry)) (now (side2 .entry))) account day ⌝ }
 {
+    let account = asked::at_most_255(account);
+    let day = asked::at_most_65535(day);
     position::figures::figures(b, held, side1, side2, account, day)
 }
 
@@ -185,13 +200,17 @@ pub extern "C" fn ghendufika_row_refusal(
     held: &[u32],
     side1: &[i32],
     side2: &[i32],
-    originator: u8,
-    reference: u16,
-    day: u16,
-    side: u8,
+    originator: u32,
+    reference: u32,
+    day: u32,
+    side: u32,
 ) -> u8
-    ensures { λ r. ⌜ r ≡ answer (rowRules (bookOf b (now (held .entry)) (now (side1 .entry)) (now (side2 .entry))) (identifierOf originator reference) day side) ⌝ }
+    ensures { λ r. ⌜ r ≡ answer (rowRules (bookOf b (now (held .entry)) (now (side1 .entry)) (now (side2 .entry))) (named originator reference) day side) ⌝ }
 {
+    let originator = asked::originator_named(originator, reference);
+    let reference = asked::at_most_65535(reference);
+    let day = asked::at_most_65535(day);
+    let side = asked::at_most_255(side);
     bars::rows::row_refusal(b, held, side1, side2, originator, reference, day, side)
 }
 
@@ -201,20 +220,24 @@ pub extern "C" fn ghendufika_day_marks(
     held: &[u32],
     side1: &[i32],
     side2: &[i32],
-    originator: u8,
-    reference: u16,
-    account: u8,
-    day: u16,
+    originator: u32,
+    reference: u32,
+    account: u32,
+    day: u32,
     cases: &mut [u8],
     firsts: &mut [f64],
     seconds: &mut [f64],
 ) -> u8
     ensures { λ r. do
       let before = bookOf b (now (held .entry)) (now (side1 .entry)) (now (side2 .entry))
-      let i = identifierOf originator reference
+      let i = named originator reference
       let a = answer (dayMarkRules before i account day (length (now (cases .entry))) (length (now (firsts .entry))) (length (now (seconds .entry))))
       ⌜ (r ≡ a) × (now (cases .exit) ≡ dayMarked caseOf before i account day a (now (cases .entry))) × (now (firsts .exit) ≡ dayMarked firstOf before i account day a (now (firsts .entry))) × (now (seconds .exit) ≡ dayMarked secondOf before i account day a (now (seconds .entry))) ⌝ }
 {
+    let originator = asked::originator_named(originator, reference);
+    let reference = asked::at_most_65535(reference);
+    let account = asked::at_most_255(account);
+    let day = asked::at_most_65535(day);
     bars::marks::day_marks(
         b,
         held,

@@ -1,5 +1,6 @@
 // What the C viewer asks about message bytes (document 01, "Packed messages"): refusal, length and any one field, each asked apart.
 // include/ghendufika.h declares these functions and names the fields.
+mod asked; // asked.rt: the numbers that a question names
 pub mod books; // books.rt: a book from C
 pub mod packing; // packing.rt: messages, setups and books out of packed bytes, and into them
 pub mod marks; // marks.rt: one mark, and where a row lies
