@@ -352,9 +352,50 @@ static void questions(void)
     CHECK(ask_day_figures(&book, 2, 99, &figures) == NO_SUCH_PLACE);
 }
 
+/* Numbers that would be right ones if they were cut to 8 or 16 bits. */
+static void wide_numbers(void)
+{
+    struct nullification accounts = {{256, 1}, 100};
+    struct nullification first_day = {{0, 1}, 65536 + 100};
+    struct mark seen;
+    struct row row;
+    struct day_figures figures;
+    int64_t kwh;
+
+    p2();
+    CHECK(account_total(&book, 257, 100, 1, &kwh) == ACCOUNT_WRONG && kwh == 0);
+    CHECK(account_total(&book, 65536, 100, 1, &kwh) == ACCOUNT_WRONG);
+    CHECK(account_total(&book, 0, 65636, 1, &kwh) == NO_SUCH_PLACE);
+    CHECK(account_total(&book, 0, UINT32_MAX, 1, &kwh) == NO_SUCH_PLACE);
+    CHECK(account_total(&book, 0, 100, 257, &kwh) == NO_SUCH_PLACE && kwh == 0);
+    CHECK(account_total(&book, 0, 100, UINT32_MAX, &kwh) == NO_SUCH_PLACE);
+    CHECK(ask_mark(&book, 0, 65537, 0, 100, 1, &seen) == IDENTIFIER_NOT_HELD);
+    CHECK(ask_mark(&book, 256, 1, 0, 100, 1, &seen) == IDENTIFIER_NOT_HELD);
+    CHECK(ask_mark(&book, 65536, 1, 0, 100, 1, &seen) == IDENTIFIER_NOT_HELD);
+    CHECK(ask_mark(&book, UINT32_MAX, 65537, 0, 100, 1, &seen) == IDENTIFIER_NOT_HELD);
+    CHECK(ask_mark(&book, 0, 1, 256, 100, 1, &seen) == ACCOUNT_WRONG);
+    CHECK(ask_mark(&book, 0, 1, 0, 65636, 1, &seen) == NO_SUCH_PLACE);
+    CHECK(ask_mark(&book, 0, 1, 0, 100, 257, &seen) == NO_SUCH_PLACE && seen.mark_case == BLANK);
+    CHECK(ask_row(&book, 0, 65537, 1, 100, &row) == IDENTIFIER_NOT_HELD && row.length == 0);
+    CHECK(ask_row(&book, 0, 1, 257, 100, &row) == NO_SUCH_PLACE && row.length == 0);
+    CHECK(ask_row(&book, 0, 1, 1, 65636, &row) == NO_SUCH_PLACE && row.length == 0);
+    CHECK(ask_day_figures(&book, 256, 100, &figures) == ACCOUNT_WRONG);
+    CHECK(ask_day_figures(&book, 0, 65636, &figures) == NO_SUCH_PLACE);
+    CHECK(nullify(&book, &accounts) == ACCOUNT_WRONG);
+    CHECK(nullify(&book, &first_day) == FIRST_AFTER_BOOK);
+    CHECK(total(0, 100, 1) == 5000);
+}
+
+static bool is_zero(const struct application *application)
+{
+    return application->kind == 0 && application->slot == 0 && application->length == 0;
+}
+
 static void all_give_1(void)
 {
+    static const uint8_t kind_3 = 0xc0;
     struct nullification both = {{0, 1}, 100};
+    struct application applied;
     struct notification n = {0};
     struct mark seen;
     struct row row;
@@ -364,6 +405,7 @@ static void all_give_1(void)
     CHECK(close_gate(&book) == NOT_A_SOUND_BOOK);
     CHECK(notify(&book, &n, &accepted) == NOT_A_SOUND_BOOK);
     CHECK(nullify(&book, &both) == NOT_A_SOUND_BOOK);
+    CHECK(apply_message(&book, &kind_3, 1, &applied) == NOT_A_SOUND_BOOK && is_zero(&applied));
     CHECK(account_total(&book, 9, 0, 0, &kwh) == NOT_A_SOUND_BOOK);
     CHECK(ask_mark(&book, 9, 9, 9, 0, 0, &seen) == NOT_A_SOUND_BOOK);
     CHECK(ask_row(&book, 9, 9, 9, 0, &row) == NOT_A_SOUND_BOOK);
@@ -390,6 +432,54 @@ static void unsound_books(void)
     p2();
     book.gates_closed = 48 + 46 + 50 + 1;
     all_give_1();
+}
+
+/* ---- One packed message ---- */
+
+/* Agent 7 says 5000 for period 1 of day 100 under this key. */
+static size_t packed_word(unsigned key, unsigned reference, uint8_t bytes[MOST_MESSAGE_BYTES])
+{
+    struct message message = {.kind = NOTIFICATION};
+
+    message.notification = (struct notification){
+        .agent = 7,
+        .key = key,
+        .reference = reference,
+        .first_day = 100,
+        .last_day = 100,
+        .count = 1,
+        .entry = {{1, 5000}},
+    };
+    return pack_message(&message, bytes);
+}
+
+static void packed_messages(void)
+{
+    static const uint8_t gate[2] = {0x00, 0xff}; /* what follows is the next's */
+    static const uint8_t nullification[4] = {0x80, 0x04, 0x01, 0x90};
+    static const uint8_t equal[4] = {0x80, 0x00, 0x01, 0x90};
+    static const uint8_t padding = 0x01;
+    struct application applied;
+    uint8_t bytes[MOST_MESSAGE_BYTES];
+
+    open_table();
+    packed_word(500, 1, bytes);
+    CHECK(apply_message(&book, bytes, sizeof bytes, &applied) == DONE);
+    CHECK(applied.kind == 1 && applied.slot == 0 && applied.length == 16);
+    CHECK(apply_message(&book, bytes, 16, &applied) == DONE);
+    CHECK(applied.kind == 2 && applied.slot == 0 && applied.length == 16);
+    packed_word(500, 2, bytes);
+    CHECK(apply_message(&book, bytes, 16, &applied) == DONE);
+    CHECK(applied.kind == 3 && applied.slot == 1 && applied.length == 16);
+    CHECK(apply_message(&book, bytes, 15, &applied) == BYTES_END_TOO_SOON && is_zero(&applied));
+    packed_word(501, 2, bytes);
+    CHECK(apply_message(&book, bytes, 16, &applied) == KEY_OR_AGENT_WRONG && is_zero(&applied));
+    CHECK(apply_message(&book, equal, 4, &applied) == ACCOUNT_WRONG && is_zero(&applied));
+    CHECK(apply_message(&book, &padding, 1, &applied) == PADDING_BIT_SET && is_zero(&applied));
+    CHECK(apply_message(&book, gate, 2, &applied) == DONE);
+    CHECK(applied.kind == 0 && applied.slot == 0 && applied.length == 1 && book.gates_closed == 1);
+    CHECK(apply_message(&book, nullification, 4, &applied) == DONE);
+    CHECK(applied.kind == 0 && applied.slot == 0 && applied.length == 4);
 }
 
 /* ---- "Packed messages": lengths and the order of reading ---- */
@@ -551,7 +641,9 @@ int main(int argc, char **argv)
     slots();
     last_gate();
     questions();
+    wide_numbers();
     unsound_books();
+    packed_messages();
     lengths();
     order_of_reading_messages();
     order_of_reading_setups();

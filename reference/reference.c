@@ -120,7 +120,7 @@ static unsigned current_day(const struct book *book)
     return book->setup.first_day + current_day_place(book);
 }
 
-static bool day_is_in_book(const struct setup *setup, unsigned day)
+static bool day_is_in_book(const struct setup *setup, uint32_t day)
 {
     return day >= setup->first_day && day <= last_day_of_book(setup);
 }
@@ -141,7 +141,7 @@ static bool in_range(int32_t volume)
 
 /* The slot that holds this identifier; the number of slots where none does.
  * Identifiers differ by originator and reference (decided). */
-static unsigned slot_holding(const struct book *book, unsigned originator, unsigned reference)
+static unsigned slot_holding(const struct book *book, uint32_t originator, uint32_t reference)
 {
     unsigned s = 0;
 
@@ -772,14 +772,14 @@ enum answer notify(struct book *book, const struct notification *n, struct accep
  * ====================================================================== */
 
 /* "A nullification names two accounts, in either order". */
-static bool is_between(const struct authorisation *pair, const unsigned account[2])
+static bool is_between(const struct authorisation *pair, const uint32_t account[2])
 {
     return (pair->account[0] == account[0] && pair->account[1] == account[1])
         || (pair->account[0] == account[1] && pair->account[1] == account[0]);
 }
 
 /* "open places from that day on become the mark", on both sides (decided). */
-static void blank_from(struct book *book, unsigned slot, unsigned first_day)
+static void blank_from(struct book *book, unsigned slot, uint32_t first_day)
 {
     for (unsigned d = 0; d < book->setup.days; d++) {
         if (book->setup.first_day + d < first_day)
@@ -797,7 +797,7 @@ static void blank_from(struct book *book, unsigned slot, unsigned first_day)
  * 0." */
 enum answer nullify(struct book *book, const struct nullification *nullification)
 {
-    const unsigned *account = nullification->account;
+    const uint32_t *account = nullification->account;
 
     if (!sound_book(book))
         return NOT_A_SOUND_BOOK;
@@ -817,16 +817,61 @@ enum answer nullify(struct book *book, const struct nullification *nullification
 }
 
 /* ======================================================================
+ * One packed message
+ * ====================================================================== */
+
+static enum answer obey(struct book *book, const struct message *message,
+                        struct application *application)
+{
+    struct acceptance acceptance;
+
+    if (message->kind == GATE)
+        return close_gate(book);
+    if (message->kind == NULLIFICATION)
+        return nullify(book, &message->nullification);
+
+    enum answer answer = notify(book, &message->notification, &acceptance);
+
+    if (answer == DONE) {
+        application->kind = 1 + (unsigned)acceptance.kind;
+        application->slot = acceptance.slot;
+    }
+    return answer;
+}
+
+/* Every order on a book begins with 1; so 1 before reading's numbers
+ * (decided), and then what the book answers.  "A refusal leaves all tables,
+ * output buffers and the clock unchanged; its other results are zero". */
+enum answer apply_message(struct book *book, const uint8_t *bytes, size_t length,
+                          struct application *application)
+{
+    struct message message;
+    size_t used;
+
+    *application = (struct application){0, 0, 0};
+    if (!sound_book(book))
+        return NOT_A_SOUND_BOOK;
+
+    enum answer answer = read_message(bytes, length, &message, &used);
+
+    if (answer == DONE)
+        answer = obey(book, &message, application);
+    if (answer == DONE)
+        application->length = used;
+    return answer;
+}
+
+/* ======================================================================
  * Matching, totals, marks, rows, day figures
  * ====================================================================== */
 
 /* "16: no such day number, period or side". */
-static bool no_such_day(const struct book *book, unsigned day)
+static bool no_such_day(const struct book *book, uint32_t day)
 {
     return !day_is_in_book(&book->setup, day);
 }
 
-static bool no_such_period(const struct book *book, unsigned day, unsigned period)
+static bool no_such_period(const struct book *book, uint32_t day, uint32_t period)
 {
     return period < 1 || period > day_length(&book->setup, day - book->setup.first_day);
 }
@@ -838,7 +883,7 @@ static bool matches(int32_t side_1, int32_t side_2)
 }
 
 /* "plus for account 1, minus for account 2"; nothing for any other. */
-static int64_t signed_for(const struct authorisation *pair, unsigned account, int32_t volume)
+static int64_t signed_for(const struct authorisation *pair, uint32_t account, int32_t volume)
 {
     if (account == pair->account[0])
         return volume;
@@ -848,7 +893,7 @@ static int64_t signed_for(const struct authorisation *pair, unsigned account, in
 }
 
 /* One identifier's matched volume of one period, signed for the account. */
-static int64_t matched_volume(const struct book *book, unsigned slot, unsigned account,
+static int64_t matched_volume(const struct book *book, unsigned slot, uint32_t account,
                               unsigned day_place, unsigned period)
 {
     int32_t side_1 = book->side[0][slot][day_place][period - 1];
@@ -861,8 +906,8 @@ static int64_t matched_volume(const struct book *book, unsigned slot, unsigned a
 
 /* "Totals count matched volumes only".  Order: "account total 1, 15, 16,
  * 26". */
-enum answer account_total(const struct book *book, unsigned account, unsigned day,
-                          unsigned period, int64_t *total)
+enum answer account_total(const struct book *book, uint32_t account, uint32_t day,
+                          uint32_t period, int64_t *total)
 {
     int64_t sum = 0;
 
@@ -891,7 +936,7 @@ static double mwh(int64_t kwh)
 /* "seen from the asking account: kWh as they stand for account 1, negated as
  * a whole number for account 2". */
 static struct mark mark_of(int32_t side_1, int32_t side_2, const struct authorisation *pair,
-                           unsigned account)
+                           uint32_t account)
 {
     struct mark mark = {BLANK, 0.0, 0.0};
 
@@ -910,8 +955,8 @@ static struct mark mark_of(int32_t side_1, int32_t side_2, const struct authoris
 }
 
 /* Order: "mark 1, 25, 15, 16". */
-enum answer ask_mark(const struct book *book, unsigned originator, unsigned reference,
-                     unsigned account, unsigned day, unsigned period, struct mark *mark)
+enum answer ask_mark(const struct book *book, uint32_t originator, uint32_t reference,
+                     uint32_t account, uint32_t day, uint32_t period, struct mark *mark)
 {
     *mark = (struct mark){BLANK, 0.0, 0.0};
     if (!sound_book(book))
@@ -941,8 +986,8 @@ enum answer ask_mark(const struct book *book, unsigned originator, unsigned refe
 /* "The day's row is shown as a part of side 1's or side 2's own table, the
  * day's length long; it is empty exactly on a refusal".  Order: "row 1, 25,
  * 16". */
-enum answer ask_row(const struct book *book, unsigned originator, unsigned reference,
-                    unsigned side, unsigned day, struct row *row)
+enum answer ask_row(const struct book *book, uint32_t originator, uint32_t reference,
+                    uint32_t side, uint32_t day, struct row *row)
 {
     *row = (struct row){NULL, 0};
     if (!sound_book(book))
@@ -966,7 +1011,7 @@ enum answer ask_row(const struct book *book, unsigned originator, unsigned refer
  * as in totals, the whole kWh sums over the day of those above zero, of those
  * below zero negated, and their difference, each divided by 1000 once."
  * Order: "day figures 1, 15, 16". */
-enum answer ask_day_figures(const struct book *book, unsigned account, unsigned day,
+enum answer ask_day_figures(const struct book *book, uint32_t account, uint32_t day,
                             struct day_figures *figures)
 {
     int64_t sold = 0;

@@ -113,9 +113,10 @@ struct notification {
     struct entry entry[MOST_ENTRIES];
 };
 
+/* Any 32-bit numbers, as in the questions. */
 struct nullification {
-    unsigned account[2];
-    unsigned first_day;
+    uint32_t account[2];
+    uint32_t first_day;
 };
 
 /* The fields that a message's kind lacks are zero. */
@@ -154,6 +155,15 @@ enum notification_kind { INITIAL, REPLACEMENT, ADDITIONAL };
 struct acceptance {
     enum notification_kind kind;
     unsigned slot;
+};
+
+/* What one packed message did: of a notification its kind, 1 initial, 2
+ * replacement, 3 additional, and its slot, which a gate and a nullification
+ * lack; and the message's length.  All zero with a refusal. */
+struct application {
+    unsigned kind;
+    unsigned slot;
+    size_t length;
 };
 
 enum mark_case { BLANK = 0, ONE_SIDE = 1, AGREED = 2, DISAGREED = 3 };
@@ -210,15 +220,22 @@ enum answer notify(struct book *book, const struct notification *notification,
                    struct acceptance *acceptance);
 enum answer nullify(struct book *book, const struct nullification *nullification);
 
-/* ---- Questions; on a refusal the result is zero, Blank or empty ---- */
+/* One packed message at the front of the bytes. */
+enum answer apply_message(struct book *book, const uint8_t *bytes, size_t length,
+                          struct application *application);
 
-enum answer account_total(const struct book *book, unsigned account, unsigned day,
-                          unsigned period, int64_t *total);
-enum answer ask_mark(const struct book *book, unsigned originator, unsigned reference,
-                     unsigned account, unsigned day, unsigned period, struct mark *mark);
-enum answer ask_row(const struct book *book, unsigned originator, unsigned reference,
-                    unsigned side, unsigned day, struct row *row);
-enum answer ask_day_figures(const struct book *book, unsigned account, unsigned day,
+/* ---- Questions; on a refusal the result is zero, Blank or empty ----
+ *
+ * They take any 32-bit numbers and hold them whole against what the book has:
+ * account 257 is not account 1. */
+
+enum answer account_total(const struct book *book, uint32_t account, uint32_t day,
+                          uint32_t period, int64_t *total);
+enum answer ask_mark(const struct book *book, uint32_t originator, uint32_t reference,
+                     uint32_t account, uint32_t day, uint32_t period, struct mark *mark);
+enum answer ask_row(const struct book *book, uint32_t originator, uint32_t reference,
+                    uint32_t side, uint32_t day, struct row *row);
+enum answer ask_day_figures(const struct book *book, uint32_t account, uint32_t day,
                             struct day_figures *figures);
 
 #endif

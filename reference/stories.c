@@ -1133,7 +1133,7 @@ static unsigned choose_nullification_day(void)
 static void step_nullification(void)
 {
     struct message message = {.kind = NULLIFICATION};
-    unsigned *account = message.nullification.account;
+    uint32_t *account = message.nullification.account;
     const struct authorisation *row = &setup.authorisation[below(setup.authorisations)];
     unsigned other_way = below(2);
 
