@@ -64,6 +64,8 @@ _Static_assert(offsetof(ghendufika_notified, kind) == 1, "notified.kind");
 _Static_assert(offsetof(ghendufika_notified, slot) == 2, "notified.slot");
 _Static_assert(sizeof(ghendufika_notified) == 4, "notified");
 _Static_assert(offsetof(ghendufika_applied, answer) == 0, "applied.answer");
+_Static_assert(offsetof(ghendufika_applied, kind) == 1, "applied.kind");
+_Static_assert(offsetof(ghendufika_applied, slot) == 2, "applied.slot");
 _Static_assert(offsetof(ghendufika_applied, length) == 8, "applied.length");
 _Static_assert(offsetof(ghendufika_applied, book) == 16, "applied.book");
 _Static_assert(sizeof(ghendufika_applied) == 800, "applied");

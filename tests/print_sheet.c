@@ -28,8 +28,8 @@ static unsigned long long bits(double figure) {
     return number;
 }
 
-static int periods_on(unsigned day) { /* the day's place */
-    static const int lengths[] = {46, 48, 50};
+static unsigned periods_on(unsigned day) { /* the day's place */
+    static const unsigned lengths[] = {46, 48, 50};
     return lengths[book.setup.codes[day]];
 }
 
@@ -59,17 +59,18 @@ static size_t apply_one_by_one(const uint8_t *bytes, size_t length) {
         ghendufika_applied one = ghendufika_apply(book, bytes + at, length - at, TABLES);
         printf("m %zu %u\n", ++messages, one.answer);
         book = one.book;
-        at += one.length;
-        if (one.length == 0) break;
+        size_t taken = one.answer == 0 ? one.length : ghendufika_message_length(bytes + at, length - at); /* a refusal gives no length */
+        at += taken;
+        if (taken == 0) break;
     }
     return messages;
 }
 
 static void ask_totals(unsigned account, unsigned day, int64_t *kwh) {
     unsigned number = book.setup.first + day;
-    if (!one && ghendufika_day_totals(book, TABLES, (uint8_t)account, (uint16_t)number, kwh, GHENDUFIKA_PLACES_A_DAY) != 0) give_up("totals were refused");
-    for (int p = 0; one && p < periods_on(day); p++) {
-        ghendufika_totalled total = ghendufika_total(book, TABLES, (uint8_t)account, (uint16_t)number, (uint8_t)(p + 1));
+    if (!one && ghendufika_day_totals(book, TABLES, account, number, kwh, GHENDUFIKA_PLACES_A_DAY) != 0) give_up("totals were refused");
+    for (unsigned p = 0; one && p < periods_on(day); p++) {
+        ghendufika_totalled total = ghendufika_total(book, TABLES, account, number, p + 1);
         if (total.answer != 0) give_up("a total was refused");
         kwh[p] = total.kwh;
     }
@@ -81,8 +82,8 @@ static void print_totals(void) {
             int64_t kwh[GHENDUFIKA_PLACES_A_DAY];
             unsigned number = book.setup.first + day;
             ask_totals(account, day, kwh);
-            for (int p = 0; p < periods_on(day); p++)
-                if (kwh[p] != 0) printf("t %u %u %d %lld\n", account, number, p + 1, (long long)kwh[p]);
+            for (unsigned p = 0; p < periods_on(day); p++)
+                if (kwh[p] != 0) printf("t %u %u %u %lld\n", account, number, p + 1, (long long)kwh[p]);
         }
 }
 
@@ -90,7 +91,7 @@ static void print_rows(unsigned slot) {
     for (unsigned side = 1; side <= 2; side++)
         for (unsigned day = 0; day < book.setup.days; day++) {
             unsigned number = book.setup.first + day;
-            ghendufika_row_place row = ghendufika_row(book, TABLES, (uint8_t)originator_of(slot), (uint16_t)reference_of(slot), (uint16_t)number, (uint8_t)side);
+            ghendufika_row_place row = ghendufika_row(book, TABLES, originator_of(slot), reference_of(slot), number, side);
             if (row.answer != 0) give_up("a row was refused");
             printf("r %u %u %u %u", originator_of(slot), reference_of(slot), side, number);
             for (size_t p = 0; p < row.length; p++) printf(" %d", (side == 1 ? side1 : side2)[row.start + p]);
@@ -99,12 +100,11 @@ static void print_rows(unsigned slot) {
 }
 
 static void ask_marks(unsigned slot, unsigned account, unsigned day, uint8_t *cases, double *firsts, double *seconds) {
-    uint8_t originator = (uint8_t)originator_of(slot);
-    uint16_t reference = (uint16_t)reference_of(slot), number = (uint16_t)(book.setup.first + day);
-    if (!one && ghendufika_day_marks(book, TABLES, originator, reference, (uint8_t)account, number, cases, GHENDUFIKA_PLACES_A_DAY,
+    unsigned originator = originator_of(slot), reference = reference_of(slot), number = book.setup.first + day;
+    if (!one && ghendufika_day_marks(book, TABLES, originator, reference, account, number, cases, GHENDUFIKA_PLACES_A_DAY,
                                      firsts, GHENDUFIKA_PLACES_A_DAY, seconds, GHENDUFIKA_PLACES_A_DAY) != 0) give_up("marks were refused");
-    for (int p = 0; one && p < periods_on(day); p++) {
-        ghendufika_marked mark = ghendufika_mark(book, TABLES, originator, reference, (uint8_t)account, number, (uint8_t)(p + 1));
+    for (unsigned p = 0; one && p < periods_on(day); p++) {
+        ghendufika_marked mark = ghendufika_mark(book, TABLES, originator, reference, account, number, p + 1);
         if (mark.answer != 0) give_up("a mark was refused");
         cases[p] = mark.bar;
         firsts[p] = mark.first;
@@ -118,16 +118,16 @@ static void print_marks(unsigned slot, unsigned account) {
         double firsts[GHENDUFIKA_PLACES_A_DAY], seconds[GHENDUFIKA_PLACES_A_DAY];
         unsigned number = book.setup.first + day;
         ask_marks(slot, account, day, cases, firsts, seconds);
-        for (int p = 0; p < periods_on(day); p++)
+        for (unsigned p = 0; p < periods_on(day); p++)
             if (cases[p] != 0)
-                printf("k %u %u %u %u %d %u %016llx %016llx\n", originator_of(slot), reference_of(slot), account, number, p + 1, cases[p], bits(firsts[p]), bits(seconds[p]));
+                printf("k %u %u %u %u %u %u %016llx %016llx\n", originator_of(slot), reference_of(slot), account, number, p + 1, cases[p], bits(firsts[p]), bits(seconds[p]));
     }
 }
 
 static void print_figures(void) {
     for (unsigned account = 0; account < book.setup.accounts; account++)
         for (unsigned day = 0; day < book.setup.days; day++) {
-            ghendufika_figured f = ghendufika_figures(book, TABLES, (uint8_t)account, (uint16_t)(book.setup.first + day));
+            ghendufika_figured f = ghendufika_figures(book, TABLES, account, book.setup.first + day);
             if (f.answer != 0) give_up("figures were refused");
             printf("f %u %u %016llx %016llx %016llx\n", account, book.setup.first + day, bits(f.day.sold), bits(f.day.bought), bits(f.day.net));
         }

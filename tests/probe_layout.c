@@ -352,19 +352,23 @@ static void pack_said(uint16_t reference, uint8_t count) {
 }
 
 static void applied(size_t book_size) {
+    static const uint64_t kinds[RUNS] = {1, 3, 2, 2, 2, 2}, slots[RUNS] = {0, 1, 0, 1, 1, 0};
     uint64_t first[RUNS], lengths[RUNS];
     any_of(first, 1000, 60000);
+    open_book(100);
     forget();
     for (int run = 0; run < RUNS; run++) apply(results[run], book, &(const uint8_t[]){0x80, 0xC0, 0x01}[refusals[run] == 19 ? 0 : refusals[run] == 20 ? 1 : 2], 1, LENT);
     field("applied", "answer", 0, find("answer", 0, ROOM, 1, refusals));
     forget();
     for (int run = 0; run < RUNS; run++) {
         book.setup.first = (uint16_t)first[run];
-        pack_said(1, (uint8_t)(7 * run + 3));
+        pack_said((uint16_t)(1 + slots[run]), (uint8_t)(7 * run + 3));
         lengths[run] = bytes();
         apply(results[run], book, packed, sizeof packed, LENT);
     }
     size_t base = find("first", 0, ROOM, 2, first);
+    field("applied", "kind", 0, find("kind", 0, base, 1, kinds));
+    field("applied", "slot", 0, find("slot", 0, base, 2, slots));
     field("applied", "length", 0, find("length", 0, base, 8, lengths));
     field("applied", "book", 0, base);
     size("applied", base + book_size, 8);
@@ -523,7 +527,7 @@ static void row_place(void) {
         book.setup.codes[run + 1] = (uint8_t)(run * 2 % 3);
         notify(book, said(1, 1, 5), LENT);
         start[run] = 50u * (unsigned)(run + 1), length[run] = lengths[run * 2 % 3];
-        row(results[run], book, LENT, 0, 1, (uint16_t)(101 + run), 2);
+        row(results[run], book, LENT, 0, 1, 101 + (unsigned)run, 2);
     }
     size_t last = find("length", 0, ROOM, 8, length);
     field("row_place", "start", 0, find("start", 0, ROOM, 8, start));

@@ -340,6 +340,58 @@ static void refused_questions(void) {
     EXPECT("bytes that end", ghendufika_read_message((const uint8_t[]){0x80}, 1).answer, 19);
 }
 
+/* ---- packed messages: answer, kind, slot and length; a refusal's other results are zero, and 1 comes before reading's numbers */
+
+static size_t pack_word(unsigned agent, unsigned key, unsigned reference, uint8_t bytes[GHENDUFIKA_MOST_MESSAGE_BYTES]) { /* 5000 kWh in period 1 of day 100 */
+    ghendufika_message m = {.kind = GHENDUFIKA_NOTIFICATION};
+    m.notification = (ghendufika_notification){.agent = (uint8_t)agent, .key = (uint16_t)key, .reference = (uint16_t)reference, .first = 100, .last = 100, .count = 1};
+    m.notification.entries[0] = (ghendufika_entry){.period = 1, .volume = 5000};
+    return ghendufika_write_message(m, bytes, GHENDUFIKA_MOST_MESSAGE_BYTES).length;
+}
+
+static void expect_applied(int line, ghendufika_book to, const uint8_t *bytes, size_t given, unsigned answer, unsigned kind, unsigned slot, size_t length, unsigned closed) {
+    ghendufika_applied a = ghendufika_apply(to, bytes, given, LENT);
+    expect(line, "the answer to a packed message", a.answer, answer);
+    expect(line, "its kind", a.kind, kind);
+    expect(line, "its slot", a.slot, slot);
+    expect(line, "its length", (double)a.length, (double)length);
+    expect(line, "gates closed", a.book.closed, closed);
+    expect(line, "the setup stays", a.book.setup.first == to.setup.first && a.book.setup.days == to.setup.days, 1);
+}
+
+#define APPLIED(to, bytes, given, answer, kind, slot, length, closed) expect_applied(__LINE__, to, bytes, given, answer, kind, slot, length, closed)
+
+static void packed_messages(void) {
+    uint8_t word[GHENDUFIKA_MOST_MESSAGE_BYTES] = {0};
+    const uint8_t gate[2] = {0x00, 0xFF}, nullification[4] = {0x80, 0x04, 0x01, 0x90}, equal[4] = {0x80, 0x00, 0x01, 0x90}, kind_3 = 0xC0, padding = 0x01;
+    open_the_book();
+    EXPECT("16 bytes", pack_word(7, 500, 1, word), 16);
+    APPLIED(book, word, sizeof word, 0, GHENDUFIKA_INITIAL, 0, 16, 0);
+    APPLIED(book, word, 16, 0, GHENDUFIKA_REPLACEMENT, 0, 16, 0);
+    APPLIED(book, word, 15, 19, 0, 0, 0, 0);
+    pack_word(9, 500, 1, word);
+    APPLIED(book, word, 16, 0, GHENDUFIKA_INITIAL, 0, 16, 0); /* on its own side nothing stands yet */
+    TOTAL(0, 100, 5000);
+    pack_word(7, 500, 2, word);
+    APPLIED(book, word, 16, 0, GHENDUFIKA_ADDITIONAL, 1, 16, 0);
+    pack_word(7, 501, 1, word);
+    APPLIED(book, word, 16, 4, 0, 0, 0, 0);
+    APPLIED(book, &kind_3, 1, 20, 0, 0, 0, 0);
+    APPLIED(book, &padding, 1, 22, 0, 0, 0, 0);
+    APPLIED(book, equal, 4, 15, 0, 0, 0, 0);
+    APPLIED(book, gate, 2, 0, 0, 0, 1, 1);
+    ghendufika_book all_closed = book, wrong = book;
+    all_closed.closed = 144; /* 48 + 46 + 50 */
+    wrong.closed = 145;
+    APPLIED(all_closed, gate, 1, 2, 0, 0, 0, 144);
+    APPLIED(wrong, gate, 1, 1, 0, 0, 0, 145);
+    APPLIED(wrong, &kind_3, 1, 1, 0, 0, 0, 145); /* 1 comes first */
+    APPLIED(wrong, gate, 0, 1, 0, 0, 0, 145);
+    TOTAL(0, 100, 5000);
+    APPLIED(book, nullification, 4, 0, 0, 0, 4, 0);
+    TOTAL(0, 100, 0);
+}
+
 /* ---- numbers of more than 8 or 16 bits: each is 256 or 65,536 above one that is answered, and none is taken for that one */
 
 static void wide_numbers_of_totals(void) {
@@ -360,6 +412,7 @@ static void wide_numbers_of_marks(void) {
     EXPECT("originator 256", ghendufika_mark(book, LENT, 256, 1, 0, 100, 1).answer, 25);
     EXPECT("originator 65,536", ghendufika_mark(book, LENT, 65536, 1, 0, 100, 1).answer, 25);
     EXPECT("reference 65,537", ghendufika_mark(book, LENT, 0, 65537, 0, 100, 1).answer, 25);
+    EXPECT("folded to the same entry", ghendufika_mark(book, LENT, UINT32_MAX, 65537, 0, 100, 1).answer, 25);
     EXPECT("account 256", ghendufika_mark(book, LENT, 0, 1, 256, 100, 1).answer, 15);
     EXPECT("day 65,636", ghendufika_mark(book, LENT, 0, 1, 0, 65636, 1).answer, 16);
     EXPECT("period 257", ghendufika_mark(book, LENT, 0, 1, 0, 100, 257).answer, 16);
@@ -406,6 +459,7 @@ int main(void) {
     refused_openings_leave_the_tables();
     refused_writing_leaves_the_buffer();
     refused_questions();
+    packed_messages();
     wide_numbers();
     printf("whole book: %lu answers as document 01 has them\n", checks);
     return 0;
