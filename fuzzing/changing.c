@@ -122,8 +122,11 @@ void try_notify(void) {
 
 void try_nullify(void) {
     lend_model();
-    asked.nullification = some_nullification(&model);
-    struct nullification told = told_nullification(&asked.nullification);
+    ghendufika_nullification some = some_nullification(&model);
+    asked.nullification.account = widened(some.account);
+    asked.nullification.other = widened(some.other);
+    asked.nullification.first = widened(some.first);
+    struct nullification told = {{asked.nullification.account, asked.nullification.other}, asked.nullification.first};
     enum answer expected = nullify(&second, &told);
 
     ask("ghendufika_nullify", SAY_TABLES | SAY_NULLIFICATION);
@@ -146,8 +149,8 @@ static enum answer do_by_second(const struct message *message) {
     return nullify(&second, &message->nullification);
 }
 
-/* "19 to 22 first, then what the book answers." */
-static enum answer apply_by_second(const uint8_t *bytes, size_t length, size_t *used) {
+/* A message of a run: its bytes are used where the book refuses it, too. */
+static enum answer next_by_second(const uint8_t *bytes, size_t length, size_t *used) {
     struct message message;
     enum answer unreadable = read_message(bytes, length, &message, used);
     return unreadable != DONE ? unreadable : do_by_second(&message);
@@ -159,16 +162,19 @@ static void check_book_after(const ghendufika_book *book, bool changed) {
 }
 
 void try_apply(void) {
-    size_t used;
+    struct application application;
     lend_model();
     lend_bytes(made, some_message_bytes(&model, made));
-    enum answer expected = apply_by_second(made, asked.length, &used);
+    enum answer expected = apply_message(&second, made, asked.length, &application);
 
     ask("ghendufika_apply", SAY_TABLES | SAY_BYTES);
     ghendufika_applied applied = ghendufika_apply(before.book, asked.bytes, asked.length, TABLES_TO_CHANGE);
     note(&seen_apply, applied.answer);
-    must(applied.answer == expected, "the answer to a packed message is the second program's");
-    must(applied.length == used, "the length is the message's, and 0 where it is unreadable");
+    note(&seen_applied_kind, applied.kind);
+    must(applied.answer == expected, "the answer to a packed message is the second program's: 1, then reading's, then the book's");
+    must(applied.length == application.length, "the length is the message's, and 0 with a refusal");
+    must(applied.kind == application.kind, "the kind of a packed notification is the second program's, and 0 of other messages and with a refusal");
+    must(applied.slot == application.slot, "the slot of a packed notification is the second program's, and 0 of other messages and with a refusal");
     check_book_after(&applied.book, expected == DONE);
     check_tables(applied.answer);
     if (expected != DONE) return;
@@ -183,7 +189,7 @@ static enum answer run_by_second(size_t length, size_t room, uint8_t *answers, s
     if (!sound_book(&second)) return NOT_A_SOUND_BOOK;
     while (*used < length && *done < room) {
         size_t one;
-        answers[*done] = (uint8_t)apply_by_second(made + *used, length - *used, &one);
+        answers[*done] = (uint8_t)next_by_second(made + *used, length - *used, &one);
         *done += 1;
         *used += one;
         if (one == 0) break;

@@ -88,7 +88,7 @@ void say_call(FILE *out) {
     if (parts & SAY_NULLIFICATION)
         fprintf(out, "  nullification: accounts %u and %u from day %u\n", asked.nullification.account, asked.nullification.other, asked.nullification.first);
     if (parts & SAY_LENGTHS) fprintf(out, "  for %zu slots, %zu places of side 1, %zu of side 2\n", asked.slots, asked.lent1, asked.lent2);
-    if (parts & SAY_IDENTIFIER) fprintf(out, "  identifier %u/%u\n", asked.originator, asked.reference);
+    if (parts & SAY_IDENTIFIER) fprintf(out, "  identifier: originator %u, reference %u\n", asked.originator, asked.reference);
     if (parts & SAY_ACCOUNT) fprintf(out, "  account %u\n", asked.account);
     if (parts & SAY_DAY) fprintf(out, "  day %u\n", asked.day);
     if (parts & SAY_PERIOD) fprintf(out, "  period %u\n", asked.period);

@@ -12,7 +12,7 @@ enum said {
     SAY_DAY = 64, SAY_PERIOD = 128, SAY_IDENTIFIER = 256, SAY_SIDE = 512, SAY_ROOM = 1024, SAY_LENGTHS = 2048, SAY_SETUP = 4096, SAY_KIND = 8192
 };
 
-/* The arguments of the call; `parts` says which of them it has. Its tables are `before`. */
+/* The arguments of the call; `parts` says which of them it has. Its tables are `before`. Numbers that are asked about may be any of 32 bits. */
 struct asked {
     const char *name;
     unsigned parts;
@@ -21,9 +21,9 @@ struct asked {
     uint32_t field;
     ghendufika_setup setup;
     ghendufika_notification notification;
-    ghendufika_nullification nullification;
-    uint8_t kind, account, period, originator, side;
-    uint16_t day, reference;
+    struct { uint32_t account, other, first; } nullification;
+    uint8_t kind;
+    uint32_t account, day, period, originator, reference, side;
     size_t room[3];
     size_t slots, lent1, lent2;
 };

@@ -15,6 +15,7 @@ struct seen seen_notify = {.name = "notify", .can_come = "0 1 2 3 4 5 6 7 8 9 10
 struct seen seen_kind = {.name = "notify: kind", .can_come = "0 1 2 3"};
 struct seen seen_nullify = {.name = "nullify", .can_come = "0 1 2 9 15"};
 struct seen seen_apply = {.name = "apply", .can_come = "0 1 2 3 4 5 6 7 8 9 10 11 12 13 14 15 19 20 21 22"};
+struct seen seen_applied_kind = {.name = "apply: kind", .can_come = "0 1 2 3"};
 struct seen seen_apply_all = {.name = "apply_all", .can_come = "0 1"};
 struct seen seen_run_answer = {.name = "apply_all: its messages", .can_come = "0 2 3 4 5 6 7 8 9 10 11 12 13 14 15 19 20 21 22",
                                .cannot = "1 (the run is refused as a whole)"};
@@ -34,7 +35,7 @@ struct seen seen_row = {.name = "row", .can_come = "0 1 16 25"};
 
 void expect_numbers(void) {
     struct seen *rows[] = {&seen_message_refusal, &seen_message_length, &seen_message_field, &seen_read_setup, &seen_open, &seen_is_sound,
-                           &seen_close_gate, &seen_notify, &seen_kind, &seen_nullify, &seen_apply, &seen_apply_all, &seen_run_answer, &seen_total,
+                           &seen_close_gate, &seen_notify, &seen_kind, &seen_nullify, &seen_apply, &seen_applied_kind, &seen_apply_all, &seen_run_answer, &seen_total,
                            &seen_day_totals, &seen_figures, &seen_row_refusal, &seen_day_marks, &seen_case,
                            &seen_read_message, &seen_write_message, &seen_write_setup, &seen_open_packed, &seen_mark, &seen_row,
     };

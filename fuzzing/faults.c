@@ -19,6 +19,13 @@ const char *const fault_names[] = {
     "entry_past_the_count_is_read", "byte_behind_a_written_message_is_changed", "refused_writing_changes_the_buffer", "period_64_is_written",
     "setup_is_written_with_padding_of_ones", "refused_packed_opening_takes_a_slot", "mark_is_shown_as_account_ones", "refused_mark_is_one_side",
     "row_starts_a_place_late", "refused_row_has_a_length",
+    "account_of_a_total_is_cut_to_8_bits", "day_of_a_total_is_cut_to_16_bits", "period_of_a_total_is_cut_to_8_bits",
+    "account_of_totals_is_cut_to_8_bits", "day_of_figures_is_cut_to_16_bits", "account_of_figures_is_cut_to_16_bits",
+    "originator_of_a_mark_is_cut_to_8_bits", "reference_of_a_mark_is_cut_to_16_bits", "reference_is_folded_into_the_originator",
+    "account_of_a_mark_is_cut_to_8_bits", "day_of_marks_is_cut_to_16_bits", "side_of_a_row_is_cut_to_8_bits", "row_of_a_folded_identifier_is_held",
+    "nullified_account_is_cut_to_8_bits", "day_of_a_nullification_is_cut_to_16_bits",
+    "refused_message_has_a_length", "refused_message_has_a_kind", "kind_of_a_packed_notification_is_lost", "slot_of_a_packed_notification_is_lost",
+    "gate_has_a_kind", "reading_comes_before_soundness",
     NULL
 };
 
@@ -88,6 +95,8 @@ ghendufika_notified faulty_notify(ghendufika_book book, ghendufika_notification 
 }
 
 uint8_t faulty_nullify(ghendufika_book book, uint32_t account, uint32_t other, uint32_t first, const uint32_t *held, size_t slots, int32_t *side1, size_t lent1, int32_t *side2, size_t lent2) {
+    if (is("nullified_account_is_cut_to_8_bits")) account = (uint8_t)account;
+    if (is("day_of_a_nullification_is_cut_to_16_bits")) first = (uint16_t)first;
     static int32_t kept[300 * 8 * 50];
     memcpy(kept, side2, lent2 * sizeof kept[0]);
     uint8_t answer = ghendufika_nullify(book, account, other, first, held, slots, side1, lent1, side2, lent2);
@@ -99,8 +108,15 @@ uint8_t faulty_nullify(ghendufika_book book, uint32_t account, uint32_t other, u
 
 ghendufika_applied faulty_apply(ghendufika_book book, const uint8_t *bytes, size_t length, uint32_t *held, size_t slots, int32_t *side1, size_t lent1, int32_t *side2, size_t lent2) {
     ghendufika_applied applied = ghendufika_apply(book, bytes, length, held, slots, side1, lent1, side2, lent2);
+    uint8_t unreadable = ghendufika_message_refusal(bytes, length);
     if (is("unreadable_message_takes_a_byte") && applied.answer == 22) applied.length = 1;
     if (is("refused_gate_message_closes") && applied.answer == 2) applied.book.closed++;
+    if (is("refused_message_has_a_length") && applied.answer != 0) applied.length = ghendufika_message_length(bytes, length);
+    if (is("refused_message_has_a_kind") && applied.answer == 14) applied.kind = 1;
+    if (is("kind_of_a_packed_notification_is_lost")) applied.kind = 0;
+    if (is("slot_of_a_packed_notification_is_lost")) applied.slot = 0;
+    if (is("gate_has_a_kind") && applied.answer == 0 && applied.length == 1) applied.kind = 1;
+    if (is("reading_comes_before_soundness") && applied.answer == 1 && unreadable != 0) applied.answer = unreadable;
     return applied;
 }
 
@@ -111,33 +127,41 @@ ghendufika_applied_all faulty_apply_all(ghendufika_book book, const uint8_t *byt
     return run;
 }
 
-ghendufika_totalled faulty_total(ghendufika_book book, const uint32_t *held, size_t slots, const int32_t *side1, size_t lent1, const int32_t *side2, size_t lent2, uint8_t account, uint16_t day, uint8_t period) {
+ghendufika_totalled faulty_total(ghendufika_book book, const uint32_t *held, size_t slots, const int32_t *side1, size_t lent1, const int32_t *side2, size_t lent2, uint32_t account, uint32_t day, uint32_t period) {
+    if (is("account_of_a_total_is_cut_to_8_bits")) account = (uint8_t)account;
+    if (is("day_of_a_total_is_cut_to_16_bits")) day = (uint16_t)day;
+    if (is("period_of_a_total_is_cut_to_8_bits")) period = (uint8_t)period;
     ghendufika_totalled totalled = ghendufika_total(book, held, slots, side1, lent1, side2, lent2, account, day, period);
     if (is("account_two_is_taken_for_account_one") && totalled.kwh < 0) totalled.kwh = -totalled.kwh;
     if (is("refused_total_is_one") && totalled.answer == 16) totalled.kwh = 1;
     return totalled;
 }
 
-uint8_t faulty_day_totals(ghendufika_book book, const uint32_t *held, size_t slots, const int32_t *side1, size_t lent1, const int32_t *side2, size_t lent2, uint8_t account, uint16_t day, int64_t *kwh, size_t room) {
+uint8_t faulty_day_totals(ghendufika_book book, const uint32_t *held, size_t slots, const int32_t *side1, size_t lent1, const int32_t *side2, size_t lent2, uint32_t account, uint32_t day, int64_t *kwh, size_t room) {
+    if (is("account_of_totals_is_cut_to_8_bits")) account = (uint8_t)account;
     uint8_t answer = ghendufika_day_totals(book, held, slots, side1, lent1, side2, lent2, account, day, kwh, room);
     if (is("total_past_the_buffer_is_written") && answer == 24) *(volatile int64_t *)(kwh + room) = 0;
     if (is("day_of_50_loses_its_last_total") && answer == 0 && room >= 50 && book.setup.codes[(day - book.setup.first) & 7] == 2) kwh[49] = 0;
     return answer;
 }
 
-ghendufika_figured faulty_figures(ghendufika_book book, const uint32_t *held, size_t slots, const int32_t *side1, size_t lent1, const int32_t *side2, size_t lent2, uint8_t account, uint16_t day) {
+ghendufika_figured faulty_figures(ghendufika_book book, const uint32_t *held, size_t slots, const int32_t *side1, size_t lent1, const int32_t *side2, size_t lent2, uint32_t account, uint32_t day) {
+    if (is("day_of_figures_is_cut_to_16_bits")) day = (uint16_t)day;
+    if (is("account_of_figures_is_cut_to_16_bits")) account = (uint16_t)account;
     ghendufika_figured figured = ghendufika_figures(book, held, slots, side1, lent1, side2, lent2, account, day);
     if (is("net_is_the_difference_of_two_floats")) figured.day.net = figured.day.sold - figured.day.bought;
     return figured;
 }
 
-uint8_t faulty_row_refusal(ghendufika_book book, const uint32_t *held, size_t slots, const int32_t *side1, size_t lent1, const int32_t *side2, size_t lent2, uint8_t originator, uint16_t reference, uint16_t day, uint8_t side) {
+uint8_t faulty_row_refusal(ghendufika_book book, const uint32_t *held, size_t slots, const int32_t *side1, size_t lent1, const int32_t *side2, size_t lent2, uint32_t originator, uint32_t reference, uint32_t day, uint32_t side) {
     if (is("side_three_has_a_row") && side == 3) side = 2;
+    if (is("side_of_a_row_is_cut_to_8_bits")) side = (uint8_t)side;
     return ghendufika_row_refusal(book, held, slots, side1, lent1, side2, lent2, originator, reference, day, side);
 }
 
-uint8_t faulty_day_marks(ghendufika_book book, const uint32_t *held, size_t slots, const int32_t *side1, size_t lent1, const int32_t *side2, size_t lent2, uint8_t originator, uint16_t reference, uint8_t account, uint16_t day, uint8_t *cases, size_t case_room, double *firsts, size_t first_room, double *seconds, size_t second_room) {
+uint8_t faulty_day_marks(ghendufika_book book, const uint32_t *held, size_t slots, const int32_t *side1, size_t lent1, const int32_t *side2, size_t lent2, uint32_t originator, uint32_t reference, uint32_t account, uint32_t day, uint8_t *cases, size_t case_room, double *firsts, size_t first_room, double *seconds, size_t second_room) {
     if (is("third_buffer_is_not_tested") && second_room == 49) second_room = 50;
+    if (is("day_of_marks_is_cut_to_16_bits")) day = (uint16_t)day;
     uint8_t answer = ghendufika_day_marks(book, held, slots, side1, lent1, side2, lent2, originator, reference, account, day, cases, case_room, firsts, first_room, seconds, second_room);
     for (unsigned p = 0; answer == 0 && p < 46; p++) {
         double first = firsts[p];
@@ -178,14 +202,26 @@ ghendufika_opened_packed faulty_open_packed(const uint8_t *bytes, size_t length,
     return opened;
 }
 
-ghendufika_marked faulty_mark(ghendufika_book book, const uint32_t *held, size_t slots, const int32_t *side1, size_t lent1, const int32_t *side2, size_t lent2, uint8_t originator, uint16_t reference, uint8_t account, uint16_t day, uint8_t period) {
+/* The identifier of the entry 1 + originator * 65,536 + reference, worked out in 32 bits. */
+static void fold(uint32_t *originator, uint32_t *reference) {
+    uint32_t entry = *originator * 65536u + *reference;
+    *originator = entry / 65536;
+    *reference = entry % 65536;
+}
+
+ghendufika_marked faulty_mark(ghendufika_book book, const uint32_t *held, size_t slots, const int32_t *side1, size_t lent1, const int32_t *side2, size_t lent2, uint32_t originator, uint32_t reference, uint32_t account, uint32_t day, uint32_t period) {
+    if (is("originator_of_a_mark_is_cut_to_8_bits")) originator = (uint8_t)originator;
+    if (is("reference_of_a_mark_is_cut_to_16_bits")) reference = (uint16_t)reference;
+    if (is("account_of_a_mark_is_cut_to_8_bits")) account = (uint8_t)account;
+    if (is("reference_is_folded_into_the_originator")) fold(&originator, &reference);
     ghendufika_marked marked = ghendufika_mark(book, held, slots, side1, lent1, side2, lent2, originator, reference, account, day, period);
     if (is("mark_is_shown_as_account_ones") && originator < 64 && book.setup.rows[originator].account2 == account && marked.first != 0.0) marked.first = -marked.first;
     if (is("refused_mark_is_one_side") && marked.answer == 16) marked.bar = 1;
     return marked;
 }
 
-ghendufika_row_place faulty_row(ghendufika_book book, const uint32_t *held, size_t slots, const int32_t *side1, size_t lent1, const int32_t *side2, size_t lent2, uint8_t originator, uint16_t reference, uint16_t day, uint8_t side) {
+ghendufika_row_place faulty_row(ghendufika_book book, const uint32_t *held, size_t slots, const int32_t *side1, size_t lent1, const int32_t *side2, size_t lent2, uint32_t originator, uint32_t reference, uint32_t day, uint32_t side) {
+    if (is("row_of_a_folded_identifier_is_held")) fold(&originator, &reference);
     ghendufika_row_place place = ghendufika_row(book, held, slots, side1, lent1, side2, lent2, originator, reference, day, side);
     if (is("row_starts_a_place_late") && place.answer == 0) place.start++;
     if (is("refused_row_has_a_length") && place.answer == 16) place.length = 48;

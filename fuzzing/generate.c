@@ -207,12 +207,30 @@ uint8_t some_period(const struct tables *tables, unsigned day) {
     return (uint8_t)(one_in(8) ? ONE_OF(0, periods, periods + 1, 50, 51, 255) : one_in(3) ? between(1, 4) : between(1, periods == 0 ? 1 : periods));
 }
 
-void some_identifier(const struct tables *tables, uint8_t *originator, uint16_t *reference) {
+uint32_t widened(uint32_t number) {
+    if (!one_in(20)) return number;
+    switch (below(6)) {
+    case 0: case 1: return number + 256;
+    case 2: case 3: return number + 65536;
+    case 4: return number + ((uint32_t)chance() << (one_in(2) ? 8 : 16));
+    default: return (uint32_t)ONE_OF(UINT32_C(1) << 31, UINT32_MAX, (UINT32_C(1) << 31) + number, chance());
+    }
+}
+
+/* Held ones mostly; also two numbers that fold to a held entry, 1 + originator * 65,536 + reference, with a reference above 65,535. */
+void some_identifier(const struct tables *tables, uint32_t *originator, uint32_t *reference) {
     uint32_t entry = tables->slots == 0 ? 0 : tables->held[some_slot(tables)];
-    *originator = (uint8_t)(entry == 0 ? below(4) : (entry - 1) / 65536);
-    *reference = (uint16_t)(entry == 0 ? below(4) : (entry - 1) % 65536);
+    *originator = entry == 0 ? below(4) : (entry - 1) / 65536;
+    *reference = entry == 0 ? below(4) : (entry - 1) % 65536;
     if (one_in(12)) *originator = (uint8_t)chance();
-    if (one_in(12)) *reference = (uint16_t)ONE_OF(0, 1, 2, 3, 65535);
+    if (one_in(12)) *reference = (uint32_t)ONE_OF(0, 1, 2, 3, 65535);
+    if (one_in(16)) {
+        uint32_t folded = *originator == 0 || one_in(4) ? (uint32_t)ONE_OF(1, 65535) : 1 + below(*originator);
+        *originator -= folded;
+        *reference += folded * 65536;
+    }
+    *originator = widened(*originator);
+    *reference = widened(*reference);
 }
 
 /* ---- notifications */

@@ -26,7 +26,9 @@ ghendufika_nullification some_nullification(const struct tables *tables);
 uint8_t some_account(const struct tables *tables);
 uint16_t some_day(const struct tables *tables);
 uint8_t some_period(const struct tables *tables, unsigned day);
-void some_identifier(const struct tables *tables, uint8_t *originator, uint16_t *reference);
+void some_identifier(const struct tables *tables, uint32_t *originator, uint32_t *reference);
+/* The number, or now and then one that is the same when it is cut to 8 or to 16 bits, or a far one. */
+uint32_t widened(uint32_t number);
 
 /* Packed, then often cut, changed or followed by more; the number of bytes. */
 size_t some_message_bytes(const struct tables *tables, uint8_t bytes[MOST_BYTES]);

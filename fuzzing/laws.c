@@ -30,7 +30,7 @@ static void check_what_is_left(const ghendufika_book *book, const char *law) {
 /* ---- the position */
 
 static int64_t total_of(unsigned account) {
-    asked.account = (uint8_t)account;
+    asked.account = account;
     ask("ghendufika_total", SAY_TABLES | SAY_ACCOUNT | SAY_DAY | SAY_PERIOD);
     ghendufika_totalled totalled = ghendufika_total(before.book, TABLES_TO_READ, asked.account, asked.day, asked.period);
     note(&seen_total, totalled.answer);
@@ -56,14 +56,14 @@ void law_day_totals_are_the_totals(void) {
     uint8_t answer = ghendufika_day_totals(before.book, TABLES_TO_READ, asked.account, asked.day, kwh, GHENDUFIKA_PLACES_A_DAY);
     note(&seen_day_totals, answer);
     for (unsigned k = 0; k < 3; k++) {
-        asked.period = (uint8_t)between(1, GHENDUFIKA_PLACES_A_DAY);
+        asked.period = (uint32_t)between(1, GHENDUFIKA_PLACES_A_DAY);
         int64_t total = total_of(asked.account); /* 0 with a refusal: then the day was refused, or it has no such period */
         must(kwh[asked.period - 1] == total, "a day's totals are the single totals");
     }
 }
 
 static uint8_t marks_for(unsigned account, uint8_t *cases, double *firsts, double *seconds) {
-    asked.account = (uint8_t)account;
+    asked.account = account;
     asked.room[0] = asked.room[1] = asked.room[2] = GHENDUFIKA_PLACES_A_DAY;
     ask("ghendufika_day_marks", SAY_TABLES | SAY_IDENTIFIER | SAY_ACCOUNT | SAY_DAY | SAY_ROOM);
     uint8_t answer = ghendufika_day_marks(before.book, TABLES_TO_READ, asked.originator, asked.reference, asked.account, asked.day, cases,
@@ -120,18 +120,18 @@ static ghendufika_notification notification_by_questions(void) {
     return n;
 }
 
-static uint8_t notify_by_questions(void) {
+static ghendufika_notified notify_by_questions(void) {
     asked.notification = notification_by_questions();
     ask("ghendufika_notify", SAY_TABLES | SAY_BYTES | SAY_NOTIFICATION);
-    uint8_t answer = ghendufika_notify(before.book, asked.notification, TABLES_TO_CHANGE).answer;
-    note(&seen_notify, answer);
-    return answer;
+    ghendufika_notified notified = ghendufika_notify(before.book, asked.notification, TABLES_TO_CHANGE);
+    note(&seen_notify, notified.answer);
+    return notified;
 }
 
 static uint8_t nullify_by_questions(void) {
-    asked.nullification.account = (uint8_t)field(GHENDUFIKA_FIELD_ACCOUNT);
-    asked.nullification.other = (uint8_t)field(GHENDUFIKA_FIELD_OTHER_ACCOUNT);
-    asked.nullification.first = (uint16_t)field(GHENDUFIKA_FIELD_FIRST_DAY);
+    asked.nullification.account = (uint32_t)field(GHENDUFIKA_FIELD_ACCOUNT);
+    asked.nullification.other = (uint32_t)field(GHENDUFIKA_FIELD_OTHER_ACCOUNT);
+    asked.nullification.first = (uint32_t)field(GHENDUFIKA_FIELD_FIRST_DAY);
     ask("ghendufika_nullify", SAY_TABLES | SAY_BYTES | SAY_NULLIFICATION);
     uint8_t answer = ghendufika_nullify(before.book, asked.nullification.account, asked.nullification.other, asked.nullification.first, HELD_TO_READ, SIDES_TO_CHANGE);
     note(&seen_nullify, answer);
@@ -146,17 +146,33 @@ static uint8_t gate_by_questions(ghendufika_book *book) {
     return gated.answer;
 }
 
-/* The message done by what the questions about its bytes say. */
-static uint8_t do_by_questions(ghendufika_book *book) {
+static uint8_t refusal_by_questions(void) {
+    ask("ghendufika_is_sound", SAY_TABLES);
+    bool sound = ghendufika_is_sound(before.book, TABLES_TO_READ);
+    note(&seen_is_sound, sound);
+    if (!sound) return 1;
     ask("ghendufika_message_refusal", SAY_BYTES);
     uint8_t refusal = ghendufika_message_refusal(asked.bytes, asked.length);
     note(&seen_message_refusal, refusal);
-    if (refusal != 0) return refusal;
+    return refusal;
+}
+
+/* The message done by what the questions about the book and its bytes say; kind and slot are a notification's alone. */
+static ghendufika_notified do_by_questions(ghendufika_book *book) {
+    ghendufika_notified done = {.answer = refusal_by_questions()};
+    if (done.answer != 0) return done;
     switch (field(GHENDUFIKA_FIELD_KIND)) {
-    case GHENDUFIKA_GATE: return gate_by_questions(book);
+    case GHENDUFIKA_GATE: done.answer = gate_by_questions(book); return done;
     case GHENDUFIKA_NOTIFICATION: return notify_by_questions();
-    default: return nullify_by_questions();
+    default: done.answer = nullify_by_questions(); return done;
     }
+}
+
+static size_t length_by_question(size_t from) {
+    ask("ghendufika_message_length", SAY_BYTES);
+    size_t length = ghendufika_message_length(asked.bytes + from, asked.length - from);
+    note(&seen_message_length, length != 0);
+    return length;
 }
 
 static ghendufika_applied apply_lent_bytes(const ghendufika_book *book, size_t from) {
@@ -173,19 +189,17 @@ void law_apply_is_questions_and_a_call_by_struct(void) {
     keep_what_is_left(&applied.book);
     lend_before();
     ghendufika_book book = before.book;
-    uint8_t answer = do_by_questions(&book);
-    must(answer == applied.answer, "a packed message is answered as its questions and the call by struct");
+    ghendufika_notified done = do_by_questions(&book);
+    must(done.answer == applied.answer, "a packed message is answered as its questions and the call by struct");
+    must(done.kind == applied.kind && done.slot == applied.slot, "a packed message has the kind and the slot of the call by struct");
     check_what_is_left(&book, "a packed message leaves what its questions and the call by struct leave");
-    ask("ghendufika_message_length", SAY_BYTES);
-    size_t length = ghendufika_message_length(asked.bytes, asked.length);
-    note(&seen_message_length, length != 0);
-    must(length == applied.length, "a packed message takes the length that the question gives");
+    must(applied.length == (applied.answer == 0 ? length_by_question(0) : 0), "a packed message that is accepted takes the length that the question gives");
 }
 
 void law_apply_all_is_apply_one_by_one(void) {
     uint8_t answers[64];
     lend_model();
-    if (!sound_book(&second)) return; /* a run is refused as a whole there, a single message is read first */
+    if (!sound_book(&second)) return; /* a run is refused as a whole there, and gives no answers */
     lend_bytes(made, some_messages_bytes(&model, made));
     asked.room[0] = below(sizeof answers + 1);
     ask("ghendufika_apply_all", SAY_TABLES | SAY_BYTES | SAY_ROOM);
@@ -200,7 +214,7 @@ void law_apply_all_is_apply_one_by_one(void) {
         ghendufika_applied one = apply_lent_bytes(&book, used);
         must(one.answer == answers[k], "a run answers as its messages one by one");
         book = one.book;
-        used += one.length;
+        used += one.answer == 0 ? one.length : length_by_question(used); /* 0 where it is unreadable */
     }
     must(used == run.used, "a run uses the bytes of its messages");
     check_what_is_left(&book, "a run leaves what its messages one by one leave");

@@ -5,7 +5,7 @@
 #include "check.h"
 
 extern struct seen seen_message_refusal, seen_message_length, seen_message_field, seen_read_setup, seen_open, seen_is_sound, seen_close_gate, seen_notify,
-    seen_kind, seen_nullify, seen_apply, seen_apply_all, seen_run_answer, seen_total, seen_day_totals, seen_figures, seen_row_refusal, seen_day_marks,
+    seen_kind, seen_nullify, seen_apply, seen_applied_kind, seen_apply_all, seen_run_answer, seen_total, seen_day_totals, seen_figures, seen_row_refusal, seen_day_marks,
     seen_case, seen_read_message, seen_write_message, seen_write_setup, seen_open_packed, seen_mark, seen_row;
 
 #endif

@@ -49,7 +49,9 @@ static ghendufika_message message_of_second(const struct message *m) {
 static ghendufika_message_written write_to(const ghendufika_message *message, size_t room) {
     asked.kind = message->kind;
     asked.notification = message->notification;
-    asked.nullification = message->nullification;
+    asked.nullification.account = message->nullification.account;
+    asked.nullification.other = message->nullification.other;
+    asked.nullification.first = message->nullification.first;
     asked.room[0] = room;
     uint8_t *out = lend_buffer(0, room);
     ask("ghendufika_write_message", SAY_KIND | SAY_NOTIFICATION | SAY_NULLIFICATION | SAY_ROOM);

@@ -15,15 +15,15 @@ static unsigned length_of_asked_day(void) { return day_length(&second.setup, ask
 
 static void ask_about_account(void) {
     lend_model();
-    asked.account = some_account(&model);
-    asked.day = some_day(&model);
-    asked.period = some_period(&model, asked.day);
+    asked.account = widened(some_account(&model));
+    asked.day = widened(some_day(&model));
+    asked.period = widened(some_period(&model, asked.day));
 }
 
 static void ask_about_identifier(void) {
     ask_about_account();
     some_identifier(&before, &asked.originator, &asked.reference);
-    asked.side = (uint8_t)(one_in(8) ? ONE_OF(0, 3, 255) : between(1, 2));
+    asked.side = widened((uint32_t)(one_in(8) ? ONE_OF(0, 3, 255) : between(1, 2)));
 }
 
 /* ---- totals */
