@@ -23,9 +23,9 @@ typedef struct {
     bool (*is_sound)(ghendufika_book, const uint32_t *, size_t, const int32_t *, size_t, const int32_t *, size_t);
     ghendufika_applied (*apply)(ghendufika_book, const uint8_t *, size_t, uint32_t *, size_t, int32_t *, size_t, int32_t *, size_t);
     ghendufika_applied_all (*apply_all)(ghendufika_book, const uint8_t *, size_t, uint32_t *, size_t, int32_t *, size_t, int32_t *, size_t, uint8_t *, size_t);
-    ghendufika_totalled (*total)(ghendufika_book, const uint32_t *, size_t, const int32_t *, size_t, const int32_t *, size_t, uint8_t, uint16_t, uint8_t);
-    uint8_t (*day_totals)(ghendufika_book, const uint32_t *, size_t, const int32_t *, size_t, const int32_t *, size_t, uint8_t, uint16_t, int64_t *, size_t);
-    ghendufika_figured (*figures)(ghendufika_book, const uint32_t *, size_t, const int32_t *, size_t, const int32_t *, size_t, uint8_t, uint16_t);
+    ghendufika_totalled (*total)(ghendufika_book, const uint32_t *, size_t, const int32_t *, size_t, const int32_t *, size_t, uint32_t, uint32_t, uint32_t);
+    uint8_t (*day_totals)(ghendufika_book, const uint32_t *, size_t, const int32_t *, size_t, const int32_t *, size_t, uint32_t, uint32_t, int64_t *, size_t);
+    ghendufika_figured (*figures)(ghendufika_book, const uint32_t *, size_t, const int32_t *, size_t, const int32_t *, size_t, uint32_t, uint32_t);
 } calls;
 
 static const calls proved = {ghendufika_message_refusal, ghendufika_message_length, ghendufika_message_field, ghendufika_is_sound, ghendufika_apply,
@@ -123,12 +123,15 @@ static void apply_all(worker *w) {
 
 static void apply_one_by_one(worker *w) {
     size_t at = 0;
+    uint64_t kinds_and_slots = 0;
     for (size_t k = 0; k < run.messages; k++) {
         ghendufika_applied done = w->with->apply(w->book, run.bytes + at, run.length - at, TABLES(w));
         w->answers[k] = done.answer;
         w->book = done.book;
-        at += done.length;
+        kinds_and_slots = kinds_and_slots * 1000003 + done.kind * 65536u + done.slot;
+        at += done.answer == 0 ? done.length : w->with->message_length(run.bytes + at, run.length - at); /* a refusal gives no length */
     }
+    w->results[0] = (int64_t)kinds_and_slots;
 }
 
 static void ask_soundness(worker *w) {

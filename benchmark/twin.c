@@ -376,27 +376,30 @@ static unsigned kind_of(const tables *t, const head *n, bool writes1, bool write
     return is_additional(t, n, writes1, writes2, is_own ? slot : t->slots) ? ADDITIONAL : INITIAL;
 }
 
-static uint8_t notify(const tables *t, const uint8_t *bytes, size_t whole) {
+/* An answer without kind and slot. */
+static ghendufika_notified only(uint8_t answer) { return (ghendufika_notified){.answer = answer}; }
+
+static ghendufika_notified notify(const tables *t, const uint8_t *bytes, size_t whole) {
     int32_t volumes[64] = {0};
     head n = head_in(bytes);
     uint8_t refusal = refusal_of_head(t, &n);
-    if (refusal != 0) return refusal;
+    if (refusal != 0) return only(refusal);
     refusal = read_entries(t, &n, bytes, whole, volumes);
-    if (refusal != 0) return refusal;
+    if (refusal != 0) return only(refusal);
 
     const ghendufika_authorisation *under = &t->book->setup.rows[n.authorisation];
     bool writes1 = n.agent == under->agent1, writes2 = n.agent == under->agent2, is_own;
     uint32_t entry = (n.originator << 16 | n.reference) + 1;
     size_t slot = slot_for(t, entry, &is_own);
     unsigned kind = kind_of(t, &n, writes1, writes2, slot, is_own);
-    if (kind == REPLACEMENT && under->amendment == 2) return 12;
-    if (kind == ADDITIONAL && under->amendment == 1) return 13;
-    if (slot == t->slots) return 14;
+    if (kind == REPLACEMENT && under->amendment == 2) return only(12);
+    if (kind == ADDITIONAL && under->amendment == 1) return only(13);
+    if (slot == t->slots) return only(14);
     twin_accepted[kind]++;
     t->held[slot] = entry;
     if (writes1) rewrite(t, t->side1, &n, slot, volumes);
     if (writes2) rewrite(t, t->side2, &n, slot, volumes);
-    return 0;
+    return (ghendufika_notified){.answer = 0, .kind = (uint8_t)kind, .slot = (uint16_t)slot};
 }
 
 static void blank_slot(const tables *t, size_t slot, unsigned first) {
@@ -427,25 +430,28 @@ static uint8_t close_gate(tables *t) {
     return 0;
 }
 
-static uint8_t do_message(tables *t, const uint8_t *bytes, size_t whole) {
+/* Kind and slot are a notification's alone. */
+static ghendufika_notified do_message(tables *t, const uint8_t *bytes, size_t whole) {
     switch (bytes[0] >> 6) {
-    case 0: return close_gate(t);
+    case 0: return only(close_gate(t));
     case 1: return notify(t, bytes, whole);
-    default: return nullify(t, bytes);
+    default: return only(nullify(t, bytes));
     }
 }
 
 ghendufika_applied twin_apply(ghendufika_book book, const uint8_t *bytes, size_t length, uint32_t *held, size_t slots, int32_t *side1, size_t lent1, int32_t *side2, size_t lent2) {
-    ghendufika_applied done = {.book = book};
-    done.answer = refusal_of_message(bytes, length, &done.length);
-    if (done.answer != 0) return done;
-    if (!book_is_sound(&done.book, held, slots, side1, lent1, side2, lent2)) {
-        done.answer = 1;
-        return done;
-    }
-    tables t = {&done.book, clock_of(&done.book), held, slots, side1, side2};
-    done.answer = do_message(&t, bytes, done.length);
-    return done;
+    ghendufika_applied applied = {.answer = 1, .book = book};
+    if (!book_is_sound(&applied.book, held, slots, side1, lent1, side2, lent2)) return applied;
+    size_t whole;
+    applied.answer = refusal_of_message(bytes, length, &whole);
+    if (applied.answer != 0) return applied;
+    tables t = {&applied.book, clock_of(&applied.book), held, slots, side1, side2};
+    ghendufika_notified done = do_message(&t, bytes, whole);
+    applied.answer = done.answer;
+    applied.kind = done.kind;
+    applied.slot = done.slot;
+    applied.length = done.answer == 0 ? whole : 0;
+    return applied;
 }
 
 ghendufika_applied_all twin_apply_all(ghendufika_book book, const uint8_t *bytes, size_t length, uint32_t *held, size_t slots, int32_t *side1, size_t lent1, int32_t *side2, size_t lent2, uint8_t *answers, size_t room) {
@@ -458,7 +464,7 @@ ghendufika_applied_all twin_apply_all(ghendufika_book book, const uint8_t *bytes
     while (run.done < room && run.used < length) {
         size_t whole;
         uint8_t refusal = refusal_of_message(bytes + run.used, length - run.used, &whole);
-        answers[run.done++] = refusal != 0 ? refusal : do_message(&t, bytes + run.used, whole);
+        answers[run.done++] = refusal != 0 ? refusal : do_message(&t, bytes + run.used, whole).answer;
         if (refusal != 0) break;
         run.used += whole;
     }
@@ -486,10 +492,10 @@ static int32_t matched(int32_t one, int32_t two) { return one == two && one != M
 
 static const int64_t MOST_TOTAL = 99999999999;
 
-ghendufika_totalled twin_total(ghendufika_book book, const uint32_t *held, size_t slots, const int32_t *side1, size_t lent1, const int32_t *side2, size_t lent2, uint8_t account, uint16_t day, uint8_t period) {
+ghendufika_totalled twin_total(ghendufika_book book, const uint32_t *held, size_t slots, const int32_t *side1, size_t lent1, const int32_t *side2, size_t lent2, uint32_t account, uint32_t day, uint32_t period) {
     ghendufika_totalled none = {.answer = refusal_of_day(&book, held, slots, side1, lent1, side2, lent2, account, day)};
     if (none.answer != 0) return none;
-    unsigned d = (unsigned)day - book.setup.first;
+    unsigned d = day - book.setup.first;
     none.answer = 16;
     if (period < 1 || period > PERIODS[book.setup.codes[d]]) return none;
     int64_t kwh = 0;
@@ -503,10 +509,10 @@ ghendufika_totalled twin_total(ghendufika_book book, const uint32_t *held, size_
     return (ghendufika_totalled){.answer = 0, .kwh = kwh};
 }
 
-uint8_t twin_day_totals(ghendufika_book book, const uint32_t *held, size_t slots, const int32_t *side1, size_t lent1, const int32_t *side2, size_t lent2, uint8_t account, uint16_t day, int64_t *kwh, size_t room) {
+uint8_t twin_day_totals(ghendufika_book book, const uint32_t *held, size_t slots, const int32_t *side1, size_t lent1, const int32_t *side2, size_t lent2, uint32_t account, uint32_t day, int64_t *kwh, size_t room) {
     uint8_t refusal = refusal_of_day(&book, held, slots, side1, lent1, side2, lent2, account, day);
     if (refusal != 0) return refusal;
-    unsigned d = (unsigned)day - book.setup.first, periods = PERIODS[book.setup.codes[d]];
+    unsigned d = day - book.setup.first, periods = PERIODS[book.setup.codes[d]];
     if (room < periods) return 24;
     memset(kwh, 0, periods * sizeof *kwh);
     for (size_t slot = 0; slot < slots; slot++) {
@@ -518,10 +524,10 @@ uint8_t twin_day_totals(ghendufika_book book, const uint32_t *held, size_t slots
     return 0; /* 26 never comes of 256 volumes; document 01 leaves open what a day gives for it */
 }
 
-ghendufika_figured twin_figures(ghendufika_book book, const uint32_t *held, size_t slots, const int32_t *side1, size_t lent1, const int32_t *side2, size_t lent2, uint8_t account, uint16_t day) {
+ghendufika_figured twin_figures(ghendufika_book book, const uint32_t *held, size_t slots, const int32_t *side1, size_t lent1, const int32_t *side2, size_t lent2, uint32_t account, uint32_t day) {
     ghendufika_figured figured = {.answer = refusal_of_day(&book, held, slots, side1, lent1, side2, lent2, account, day)};
     if (figured.answer != 0) return figured;
-    unsigned d = (unsigned)day - book.setup.first, periods = PERIODS[book.setup.codes[d]];
+    unsigned d = day - book.setup.first, periods = PERIODS[book.setup.codes[d]];
     int64_t sold = 0, bought = 0;
     for (size_t slot = 0; slot < slots; slot++) {
         int sign = sign_of(&book.setup, held[slot], account);

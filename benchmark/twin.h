@@ -15,11 +15,11 @@ ghendufika_applied twin_apply(ghendufika_book book, const uint8_t *bytes, size_t
 
 ghendufika_applied_all twin_apply_all(ghendufika_book book, const uint8_t *bytes, size_t length, uint32_t *held, size_t slots, int32_t *side1, size_t lent1, int32_t *side2, size_t lent2, uint8_t *answers, size_t room);
 
-ghendufika_totalled twin_total(ghendufika_book book, const uint32_t *held, size_t slots, const int32_t *side1, size_t lent1, const int32_t *side2, size_t lent2, uint8_t account, uint16_t day, uint8_t period);
+ghendufika_totalled twin_total(ghendufika_book book, const uint32_t *held, size_t slots, const int32_t *side1, size_t lent1, const int32_t *side2, size_t lent2, uint32_t account, uint32_t day, uint32_t period);
 
-uint8_t twin_day_totals(ghendufika_book book, const uint32_t *held, size_t slots, const int32_t *side1, size_t lent1, const int32_t *side2, size_t lent2, uint8_t account, uint16_t day, int64_t *kwh, size_t room);
+uint8_t twin_day_totals(ghendufika_book book, const uint32_t *held, size_t slots, const int32_t *side1, size_t lent1, const int32_t *side2, size_t lent2, uint32_t account, uint32_t day, int64_t *kwh, size_t room);
 
-ghendufika_figured twin_figures(ghendufika_book book, const uint32_t *held, size_t slots, const int32_t *side1, size_t lent1, const int32_t *side2, size_t lent2, uint8_t account, uint16_t day);
+ghendufika_figured twin_figures(ghendufika_book book, const uint32_t *held, size_t slots, const int32_t *side1, size_t lent1, const int32_t *side2, size_t lent2, uint32_t account, uint32_t day);
 
 /* How many notifications of each kind (1 initial, 2 replacement, 3 additional) were accepted since the program began: what a run is made of. It also keeps
  * the search for the kind, which the proved code makes for every notification, from being left out where the answer does not depend on it. */
