@@ -1,8 +1,7 @@
 -- A book from a packed setup: it opens exactly where it reads. What was read keeps the setup rules, and a refused setup, all zero, breaks them.
-use mathlib.Core.Bool.{false}
 use mathlib.Core.List.{List}
 use mathlib.Core.Logic.{_≢_}
-use mathlib.Core.Path.{_≡_, refl, sym, ap, _∙_}
+use mathlib.Core.Path.{_≡_, sym, ap, _∙_}
 use Prim.Native.Nat.{ℕ}
 use lib.IntN.{ℤ}
 use lib.ListN.{length}
@@ -10,8 +9,9 @@ use borrow.Author.Tests.{ne-eqb}
 use Rattle.words.specs.Tests.{_=?_}
 use Rattle.words.specs.Rules.{answer}
 use Rattle.laws.proofs.Cases.{by-eq, one-outcome}
+use Rattle.meaning.specs.Ledgers.{contracts}
 use Rattle.meaning.specs.Books as Books
-use Rattle.meaning.specs.Books.{countsWrong, lastDayWrong, lentWrong, codeWrong, someRowWrong, openingRules}
+use Rattle.meaning.specs.Books.{countsWrong, openingRules, openedBook}
 use Rattle.meaning.specs.PackedMessages.{Reading}
 use Rattle.meaning.specs.PackedSetups.{noSetup, setupIn, setupReadingRules, readSetup}
 use Rattle.meaning.proofs.PackedSetupRules.{setup-reading-answer, setup-reading-done, setup-readable}
@@ -24,6 +24,8 @@ use Rattle.setups.proofs.SetupHeld.{codes-own}
 use Rattle.book.specs.Answers.{opened, openedPacked, heldOpened, sideOpened}
 use Rattle.book.specs.declared.Opened.{Opened}
 use Rattle.book.specs.declared.OpenedPacked.{OpenedPacked}
+use Rattle.book.specs.Structs.{bookOf}
+use Rattle.book.proofs.OpeningLaws.{opened-book}
 use Rattle.book.proofs.UniqueState.{Opens}
 
 -- ---- it opens exactly where it reads
@@ -39,18 +41,16 @@ module _ (bytes : List ℕ) (slots lent1 lent2 : ℕ) where
   opening s = answer (openingRules s slots lent1 lent2)
 
   -- a setup that was read is what its struct holds, and opens
-  read-opens : number ≡ 0 → opening (setupOf (setupFor (setupIn bytes))) ≡ 0
+  read-held : number ≡ 0 → setupOf (setupFor (setupIn bytes)) ≡ setupIn bytes
+  read-held e =
+      let r = setup-readable bytes slots lent1 lent2 e in
+      struct-holds (setupIn bytes) (few-codes (setupIn bytes) (r .counts)) (few-rows (setupIn bytes) (r .counts))
+
+  read-opens : number ≡ 0 → opening (setupIn bytes) ≡ 0
   unfolding answer openingRules
   read-opens e =
       let r = setup-readable bytes slots lent1 lent2 e in
-      rw (
-        struct-holds (setupIn bytes) (few-codes (setupIn bytes) (r .counts)) (few-rows (setupIn bytes) (r .counts)),
-        r .counts,
-        r .lastDay,
-        r .lent,
-        r .codes,
-        r .rows,
-      )
+      rw (r .counts, r .lastDay, r .lent, r .codes, r .rows)
 
   refused-read : number ≢ 0 → reading ≡ record { answer = number; length = 0; read = noSetup }
   unfolding readSetup
@@ -64,7 +64,7 @@ module _ (bytes : List ℕ) (slots lent1 lent2 : ℕ) where
   pub opens-exactly : (opening (setupOf (setupFor (reading .read))) =? 0) ≡ (reading .answer =? 0)
   opens-exactly =
       by-eq number 0
-      (λ e. rw (setup-reading-done bytes slots lent1 lent2 e, read-opens e))
+      (λ e. rw (setup-reading-done bytes slots lent1 lent2 e, read-held e, read-opens e))
       (λ n. rw (refused-read n, none-opens, ne-eqb number 0 n))
 
 -- ---- so what opening gives and leaves is what reading's answer says
@@ -108,6 +108,23 @@ module _ (bytes held : List ℕ) (side1 side2 : List ℤ) where
         w .2 ∙ same-side n m same side1,
         w .3 ∙ same-side n m same side2,
       )
+
+  -- where it is accepted, no rule of opening refuses the setup in the bytes, and the book with its tables is the one that meaning opens from it
+  module _ (r : OpenedPacked) (h : List ℕ) (l1 l2 : List ℤ) (opens : OpensPacked r h l1 l2) (accepted : r .answer ≡ 0) where
+    read-done : answer (setupReadingRules bytes (length held) (length side1) (length side2)) ≡ 0
+    unfolding openedPacked
+    read-done = sym (setup-reading-answer bytes (length held) (length side1) (length side2)) ∙ sym (ap (λ (x : OpenedPacked). x .answer) (opens .0)) ∙ accepted
+
+    pub packed-accepted : answer (openingRules (setupIn bytes) (length held) (length side1) (length side2)) ≡ 0
+    packed-accepted = read-opens bytes (length held) (length side1) (length side2) read-done
+
+    pub packed-book : bookOf (r .book) h l1 l2 ≡ openedBook contracts (setupIn bytes) (length held)
+    unfolding openedPacked
+    packed-book =
+        let same = read-held bytes (length held) (length side1) (length side2) read-done in
+        let s = setupFor (setupIn bytes) in
+        rw (opens .0, opens .1, opens .2, opens .3, setup-reading-done bytes (length held) (length side1) (length side2) read-done)
+        (opened-book s held side1 side2 (rw same packed-accepted) ∙ ap (λ (x : Books.Setup). openedBook contracts x (length held)) same)
 
 pub unique-open-packed : (bytes held : List ℕ) (side1 side2 : List ℤ) (r r′ : OpenedPacked) (h h′ : List ℕ) (l1 l1′ l2 l2′ : List ℤ)
     → OpensPacked bytes held side1 side2 r h l1 l2 → OpensPacked bytes held side1 side2 r′ h′ l1′ l2′ → (r ≡ r′) × (h ≡ h′) × (l1 ≡ l1′) × (l2 ≡ l2′)

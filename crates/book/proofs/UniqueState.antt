@@ -9,15 +9,13 @@ use Rattle.laws.proofs.Cases.{one-outcome}
 use Rattle.meaning.specs.Authorisations.{rowAt}
 use Rattle.meaning.specs.Books.{openingRules}
 use Rattle.meaning.specs.Soundness.{sound}
-use Rattle.meaning.specs.Calls.{gateRules}
 use Rattle.setups.specs.declared.Authorisation.{Authorisation}
 use Rattle.setups.specs.declared.Setup.{Setup}
 use Rattle.setups.specs.Structs.{rowOf, rowFor, setupOf}
 use Rattle.clock.specs.declared.Clock.{Clock}
-use Rattle.book.specs.Answers.{nextAnswer, gated, opened, heldOpened, sideOpened}
+use Rattle.book.specs.Answers.{opened, heldOpened, sideOpened}
 use Rattle.book.specs.Structs.{clockIn, rowsIn, originPlace, originRow, bookOf}
 use Rattle.book.specs.declared.Book.{Book}
-use Rattle.book.specs.declared.Gated.{Gated}
 use Rattle.book.specs.declared.Opened.{Opened}
 use Rattle.book.proofs.OpeningLaws.{openingAnswer}
 
@@ -37,13 +35,6 @@ unique-origin-row authorisations entry row r r′ p q = one-outcome p q
 pub unique-is-sound : (b : Book) (held : List ℕ) (side1 side2 : List ℤ) (r r′ : Bool)
     → r ≡ sound (bookOf b held side1 side2) → r′ ≡ sound (bookOf b held side1 side2) → r ≡ r′
 unique-is-sound b held side1 side2 r r′ p q = one-outcome p q
-
-pub unique-close-next : (b : Book) (r r′ : Gated) → r ≡ gated b (nextAnswer b) → r′ ≡ gated b (nextAnswer b) → r ≡ r′
-unique-close-next b r r′ p q = one-outcome p q
-
-pub unique-close-gate : (b : Book) (held : List ℕ) (side1 side2 : List ℤ) (r r′ : Gated)
-    → r ≡ gated b (answer (gateRules (bookOf b held side1 side2))) → r′ ≡ gated b (answer (gateRules (bookOf b held side1 side2))) → r ≡ r′
-unique-close-gate b held side1 side2 r r′ p q = one-outcome p q
 
 pub unique-opening-refusal : (s : Setup) (slots lent1 lent2 r r′ : ℕ)
     → r ≡ answer (openingRules (setupOf s) slots lent1 lent2) → r′ ≡ answer (openingRules (setupOf s) slots lent1 lent2) → r ≡ r′

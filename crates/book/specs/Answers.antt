@@ -1,32 +1,17 @@
--- What the calls of `book` give with an answer, which is 0 where the call is accepted.
+-- What opening gives with an answer, which is 0 where it is accepted.
 use mathlib.Core.List.{List}
-use Prim.Native.Nat.{ℕ, _+_}
+use Prim.Native.Nat.{ℕ}
 use lib.IntN.{ℤ}
 use lib.ListN.{length, replicate}
 use Rattle.words.specs.Tests.{if_then_else_, _=?_}
-use Rattle.meaning.specs.Time.{everyGateClosed}
 use Rattle.meaning.specs.Ledgers.{theMark}
 use Rattle.meaning.specs.Books as Meaning
 use Rattle.meaning.specs.PackedMessages.{Reading}
 use Rattle.setups.specs.declared.Setup.{Setup}
 use Rattle.setups.specs.Structs.{noSetupStruct, setupFor}
-use Rattle.book.specs.Structs.{timeIn}
 use Rattle.book.specs.declared.Book.{Book}
-use Rattle.book.specs.declared.Gated.{Gated}
 use Rattle.book.specs.declared.Opened.{Opened}
 use Rattle.book.specs.declared.OpenedPacked.{OpenedPacked}
-
--- ---- closing a gate: one more is closed, and with a refusal the book is as it came
-
--- of a book known to be sound
-unfoldable pub nextAnswer : Book → ℕ
-nextAnswer b = if everyGateClosed (timeIn b) then 2 else 0
-
-unfoldable pub oneClosed : Book → Book
-oneClosed b = record { setup = b .setup; closed = b .closed + 1 }
-
-unfoldable pub gated : Book → ℕ → Gated
-gated b answer = record { answer = answer; book = if answer =? 0 then oneClosed b else b }
 
 -- ---- opening: no gate closed, no identifier held, the mark in every place; with a refusal a book all zero, and the tables as they came
 

@@ -2,7 +2,6 @@
 // of volumes for each side, slots times days times 50.
 pub mod numbers; // numbers.rt: the answer numbers
 pub mod state; // state.rt: the clock and the authorisations of a book, and its soundness
-pub mod gates; // gates.rt: closing the next gate
 pub mod opening; // opening.rt: a setup and three lent tables to a book
 
 // The setup, and the number of gates closed.
@@ -10,13 +9,6 @@ pub mod opening; // opening.rt: a setup and three lent tables to a book
 pub struct Book {
     pub setup: setups::Setup,
     pub closed: u16,
-}
-
-// With a refusal the book is as it came.
-#[repr(C)]
-pub struct Gated {
-    pub answer: u8,
-    pub book: Book,
 }
 
 // With a refusal the book is all zero.

@@ -33,8 +33,6 @@ pub const NO_SUCH_ACCOUNT: u8 = 15;
 // Day number, period or side.
 pub const NO_SUCH_DAY: u8 = 16;
 
-pub const NO_SUCH_KIND: u8 = 20;
-
 pub const NO_ROOM: u8 = 24;
 
 pub const NOT_HELD: u8 = 25;

@@ -1,6 +1,6 @@
 -- THE BRIDGE: calls made one after another on a book by value and its lent tables follow meaning's run, so that the history speaks of what the
 -- tables hold.
-use mathlib.Core.Bool.{true, false}
+use mathlib.Core.Bool.{true}
 use mathlib.Core.List.{List, [], _∷_, _++_}
 use mathlib.Core.Path.{_≡_, refl, sym, ap, _∙_}
 use Prim.Native.Nat.{ℕ}
@@ -12,14 +12,14 @@ use Rattle.laws.proofs.Cases.{on}
 use Rattle.meaning.specs.Time.{Time, isPeriod}
 use Rattle.meaning.specs.Ledgers.{contracts, Side}
 use Rattle.meaning.specs.Messages.{Message, notification, nullification}
-use Rattle.meaning.specs.Books.{openedBook}
+use Rattle.meaning.specs.Books.{openingRules, openedBook}
 use Rattle.meaning.specs.Books as Meaning
 use Rattle.meaning.specs.Soundness.{sound}
 use Rattle.meaning.specs.Calls.{Call, gate, message, gateRules}
 use Rattle.meaning.specs.History.{standing, decides, after, eventsOf}
 use Rattle.meaning.specs.PackedCalls.{applied, Run, callsIn, runOn}
 use Rattle.meaning.proofs.Contracts.{contracts-lawful}
-use Rattle.meaning.proofs.History.{after-sound, history, SameBook, same-book, after-same}
+use Rattle.meaning.proofs.History.{after-sound, history, SameBook, after-same}
 use Rattle.meaning.proofs.PackedCalls.{after-append, run-is-calls, run-sound, run-unsound}
 use Rattle.meaning.proofs.Applied.{unsound-after, applied-is-calls}
 use Rattle.setups.specs.declared.Setup.{Setup}
@@ -28,18 +28,18 @@ use Rattle.messages.specs.declared.Notification.{Notification}
 use Rattle.messages.specs.declared.Nullification.{Nullification}
 use Rattle.messages.specs.Structs.{notificationOf, nullificationOf}
 use Rattle.book.specs.declared.Book.{Book}
-use Rattle.book.specs.declared.Gated.{Gated}
 use Rattle.book.specs.declared.Opened.{Opened}
-use Rattle.book.specs.Answers.{gated, opened, heldOpened, sideOpened}
-use Rattle.book.specs.Structs.{timeIn, bookOf}
-use Rattle.book.proofs.GateLaws.{gated-steps}
+use Rattle.book.specs.Answers.{opened}
+use Rattle.book.specs.Structs.{bookOf}
 use Rattle.book.proofs.OpeningLaws.{openingAnswer, opened-book}
 use Rattle.book.proofs.UniqueState.{Opens}
-use Rattle.calls.specs.Answers.{afterCall, bookAt}
+use Rattle.calls.specs.Answers.{afterCall, gated}
+use Rattle.calls.specs.declared.Gated.{Gated}
 use Rattle.calls.specs.declared.Notified.{Notified}
 use Rattle.calls.specs.declared.Applied as Structs
 use Rattle.calls.specs.declared.AppliedAll.{AppliedAll}
 use Rattle.calls.proofs.CallLaws.{message-clock, nullification-held}
+use Rattle.calls.proofs.GateLaws.{gated-steps}
 use Rattle.calls.proofs.Promises.{Notifies, Nullifies, Applies, AppliesAll}
 use Rattle.calls.proofs.RunLaws.{holds-book}
 
@@ -140,6 +140,28 @@ follows {s} (apply-all-made {calls} bytes answers r h l1 l2 left p m) =
 
 -- ---- from an opened book
 
+-- Opening has begun the book: no rule of opening refuses the setup with these lengths, and the tables hold the book that meaning opens from it.
+pub record Begins (start : State) (setup : Meaning.Setup) (slots lent1 lent2 : ℕ) : Type 0 where
+  pub unrefused : answer (openingRules setup slots lent1 lent2) ≡ 0
+  pub holds : whole start ≡ openedBook contracts setup slots
+
+module _ {start : State} {setup : Meaning.Setup} {slots lent1 lent2 : ℕ} (begins : Begins start setup slots lent1 lent2)
+    (t : State) (calls : List (Call contracts)) (made : Made start calls t) where
+  pub begun-holds : whole t ≡ after (openedBook contracts setup slots) calls
+  begun-holds = follows made ∙ ap (λ (w : Meaning.Book contracts). after w calls) (begins .holds)
+
+  -- the tables are a sound book after every call, so no call is refused by 1
+  pub begun-sound : sound (whole t) ≡ true
+  begun-sound = ap sound begun-holds ∙ after-sound contracts-lawful setup slots lent1 lent2 (begins .unrefused) calls
+
+  -- what stands in the tables is what the last call that concerns it gives
+  pub begun-history : (i : ℕ) (σ : Side) (D period : ℕ) → isPeriod (openedBook contracts setup slots .time) D period ≡ true
+      → standing (whole t) i σ D period ≡ decides (setup .rows) (eventsOf (openedBook contracts setup slots) calls) i σ D period
+  begun-history i σ D period p =
+      ap (λ (w : Meaning.Book contracts). standing w i σ D period) begun-holds
+      ∙ history contracts-lawful setup slots lent1 lent2 (begins .unrefused) calls i σ D period p
+
+-- by `open`
 module _ (setup : Setup) (held : List ℕ) (side1 side2 : List ℤ) (r : Opened) (h : List ℕ) (l1 l2 : List ℤ)
     (opening : Opens setup held side1 side2 r h l1 l2) (accepted : r .answer ≡ 0) where
   abbrev start : State
@@ -156,18 +178,16 @@ module _ (setup : Setup) (held : List ℕ) (side1 side2 : List ℤ) (r : Opened)
   opens-whole =
       rw (opening .0, opening .1, opening .2, opening .3, answered) (opened-book setup held side1 side2 answered)
 
+  pub opens-begins : Begins start (setupOf setup) (length held) (length side1) (length side2)
+  opens-begins = record { unrefused = answered; holds = opens-whole }
+
   module _ (t : State) (calls : List (Call contracts)) (made : Made start calls t) where
     pub holds-after : whole t ≡ after begun calls
-    holds-after = follows made ∙ ap (λ (w : Meaning.Book contracts). after w calls) opens-whole
+    holds-after = begun-holds opens-begins t calls made
 
-    -- the tables are a sound book after every call, so no call is refused by 1
     pub stays-sound : sound (whole t) ≡ true
-    stays-sound =
-        ap sound holds-after ∙ after-sound contracts-lawful (setupOf setup) (length held) (length side1) (length side2) answered calls
+    stays-sound = begun-sound opens-begins t calls made
 
-    -- what stands in the tables is what the last call that concerns it gives
     pub tables-follow-history : (i : ℕ) (σ : Side) (D period : ℕ) → isPeriod (begun .time) D period ≡ true
         → standing (whole t) i σ D period ≡ decides (setupOf setup .rows) (eventsOf begun calls) i σ D period
-    tables-follow-history i σ D period p =
-        ap (λ (w : Meaning.Book contracts). standing w i σ D period) holds-after
-        ∙ history contracts-lawful (setupOf setup) (length held) (length side1) (length side2) answered calls i σ D period p
+    tables-follow-history = begun-history opens-begins t calls made

@@ -17,7 +17,7 @@ use Rattle.meaning.specs.Books as Meaning
 use Rattle.meaning.specs.Soundness.{sound}
 use Rattle.meaning.specs.Notifications.{notified}
 use Rattle.meaning.specs.Calls as Calls
-use Rattle.meaning.specs.Calls.{Call, message, gateRules, rulesFor, refusal, accepted, act}
+use Rattle.meaning.specs.Calls.{message, gateRules, rulesFor, accepted, act}
 use Rattle.meaning.specs.History.{after}
 use Rattle.meaning.specs.PackedMessages.{Packed, gate, notification, nullification, otherKind}
 use Rattle.meaning.specs.PackedCalls.{callsOf, messageRules, kindGiven, slotGiven}
@@ -25,14 +25,13 @@ use Rattle.messages.specs.declared.Message.{Message}
 use Rattle.messages.specs.Structs.{notificationOf, nullificationOf, messageOf}
 use Rattle.messages.specs.Parts.{kindRefusal}
 use Rattle.book.specs.declared.Book.{Book}
-use Rattle.book.specs.declared.Gated.{Gated}
-use Rattle.book.specs.Answers.{nextAnswer, oneClosed, gated}
 use Rattle.book.specs.Structs.{bookOf}
-use Rattle.book.proofs.GateLaws.{gate-sound, gated-steps}
-use Rattle.calls.specs.Answers.{afterCall, afterMessage, bookAt, notifiedOf, messageDone}
+use Rattle.calls.specs.Answers.{afterCall, afterMessage, nextAnswer, oneClosed, gated, messageDone}
+use Rattle.calls.specs.declared.Gated.{Gated}
 use Rattle.calls.specs.declared.Notified.{Notified}
 use Rattle.calls.specs.declared.sound_book.Done.{Done}
 use Rattle.calls.proofs.CallLaws.{after-one, message-clock, nullification-held}
+use Rattle.calls.proofs.GateLaws.{gate-sound, gated-steps}
 use Rattle.calls.proofs.NotifyLaws.{notified-number, notification-answer}
 use Rattle.calls.proofs.Promises.{Notifies, Nullifies}
 

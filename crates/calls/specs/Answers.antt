@@ -1,8 +1,10 @@
 -- What the calls on a book give with an answer, which is 0 where the call is accepted, and what they leave.
-use Prim.Native.Nat.{ℕ}
+use Prim.Native.Nat.{ℕ, _+_}
 use lib.ListN.{length}
+use Rattle.words.specs.Tests.{if_then_else_, _=?_}
 use Rattle.words.specs.Runs.{step}
 use Rattle.words.specs.Rules.{answer}
+use Rattle.meaning.specs.Time.{everyGateClosed}
 use Rattle.meaning.specs.Ledgers.{contracts}
 use Rattle.meaning.specs.Books as Meaning
 use Rattle.meaning.specs.Notifications as Notifications
@@ -12,6 +14,8 @@ use Rattle.meaning.specs.PackedMessages.{Packed}
 use Rattle.meaning.specs.PackedCalls as PackedCalls
 use Rattle.meaning.specs.PackedCalls.{callsOf, messageRules, kindGiven, slotGiven, Step, Run}
 use Rattle.book.specs.declared.Book.{Book}
+use Rattle.book.specs.Structs.{timeIn}
+use Rattle.calls.specs.declared.Gated.{Gated}
 use Rattle.calls.specs.declared.Notified.{Notified}
 use Rattle.calls.specs.declared.Applied.{Applied}
 use Rattle.calls.specs.declared.sound_book.Done.{Done}
@@ -29,6 +33,18 @@ afterMessage b m = after b (callsOf m)
 -- the book by value, its setup as it came and the clock as meaning has it
 abbrev pub bookAt : Book → Meaning.Book contracts → Book
 bookAt b whole = record { setup = b .setup; closed = whole .time .closed }
+
+-- ---- closing a gate: one more is closed, and with a refusal the book is as it came
+
+-- of a book known to be sound
+unfoldable pub nextAnswer : Book → ℕ
+nextAnswer b = if everyGateClosed (timeIn b) then 2 else 0
+
+unfoldable pub oneClosed : Book → Book
+oneClosed b = record { setup = b .setup; closed = b .closed + 1 }
+
+unfoldable pub gated : Book → ℕ → Gated
+gated b answer = record { answer = answer; book = if answer =? 0 then oneClosed b else b }
 
 -- ---- a notification
 

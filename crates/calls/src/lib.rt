@@ -1,8 +1,16 @@
-// The calls that messages make on a book by value and its lent tables (meaning, Calls.antt and PackedCalls.antt).
+// The calls on a book by value and its lent tables (meaning, Calls.antt and PackedCalls.antt).
+pub mod gates; // gates.rt: closing the next gate
 pub mod notifications; // notifications.rt: a notification's answer, and what it writes
 pub mod nullifications; // nullifications.rt: blanking a pair
 pub mod packed; // packed.rt: a packed message, and a run of packed messages
 mod sound_book; // sound_book.rt: what a book that is known to be sound does with a message
+
+// With a refusal the book is as it came.
+#[repr(C)]
+pub struct Gated {
+    pub answer: u8,
+    pub book: book::Book,
+}
 
 // The kind is 1 initial, 2 replacement, 3 additional. With a refusal kind and slot are 0.
 #[repr(C)]

@@ -14,6 +14,7 @@ ghost use Rattle.meaning.specs.PackedCalls.{applied, stepped, appliedAll, runAn
 ghost use Rattle.book.specs.Structs.{bookOf};
 ghost use Rattle.calls.specs.Answers.{appliedOf, steppedOf, ranOf};
 
+// The length is 0 exactly where the bytes are unreadable.
 struct Stepped {
     answer: u8,
     length: usize,

@@ -1,7 +1,7 @@
 // What a book that is known to be sound does with a message: the private core of every call. The tests of soundness are its callers'.
 use crate::Notified;
+use crate::gates;
 use book::Book;
-use book::gates;
 use book::state;
 use messages::layouts;
 ghost use mathlib.Core.Bool.{true, cond};
@@ -9,7 +9,6 @@ ghost use mathlib.Core.Path.{_≡_};
 ghost use Prim.Native.Nat.{ℕ, suc};
 ghost use Rattle.words.specs.Rules.{answer};
 ghost use Rattle.words.specs.Lists.{build, mapAt};
-ghost use Rattle.meaning.specs.Ledgers.{slotFor};
 ghost use Rattle.meaning.specs.Messages.{notification, nullification, volume};
 ghost use Rattle.meaning.specs.Soundness.{sound};
 ghost use Rattle.meaning.specs.Notifications.{notified};

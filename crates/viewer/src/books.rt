@@ -18,8 +18,8 @@ ghost use Rattle.setups.specs.Structs.{setupOf};
 ghost use Rattle.setup_reading.specs.Structs.{setupRead};
 ghost use Rattle.book.specs.Structs.{bookOf};
 ghost use Rattle.messages.specs.Structs.{notificationOf};
-ghost use Rattle.book.specs.Answers.{opened, heldOpened, sideOpened, gated};
-ghost use Rattle.calls.specs.Answers.{afterCall, notifiedOf, appliedOf, ranOf};
+ghost use Rattle.book.specs.Answers.{opened, heldOpened, sideOpened};
+ghost use Rattle.calls.specs.Answers.{afterCall, gated, notifiedOf, appliedOf, ranOf};
 ghost use Rattle.position.specs.Totals.{totalled, dayTotalRules, dayTotals, figured};
 ghost use Rattle.shown.specs.Figures.{caseOf, firstOf, secondOf};
 ghost use Rattle.bars.specs.Marks.{dayMarkRules, dayMarked};
@@ -64,10 +64,10 @@ pub extern "C" fn ghendufika_close_gate(
     held: &[u32],
     side1: &[i32],
     side2: &[i32],
-) -> book::Gated
+) -> calls::Gated
     ensures { λ r. ⌜ r ≡ gated b (answer (gateRules (bookOf b (now (held .entry)) (now (side1 .entry)) (now (side2 .entry))))) ⌝ }
 {
-    book::gates::close_gate(b, held, side1, side2)
+    calls::gates::close_gate(b, held, side1, side2)
 }
 
 #[no_mangle]

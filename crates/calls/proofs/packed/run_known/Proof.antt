@@ -1,13 +1,12 @@
 -- Between two turns the book is sound, and what is done and what is ahead make up the whole run.
 use borrow.Author.Needs.{needs}
 use borrow.Author.Tests.{ltb-true, ltb-false}
-use mathlib.Core.Bool.{true, false}
 use mathlib.Core.List.{List}
-use mathlib.Core.Path.{_≡_, sym, subst}
-use Prim.Native.Nat.{ℕ, _-_, _≤_, _<_}
+use mathlib.Core.Path.{subst}
+use Prim.Native.Nat.{ℕ, _-_, _<_}
 use native.Mathlib.Omega.{arith}
 use lib.Dec.{ltb}
-use lib.ListN.{length, drop, length-set}
+use lib.ListN.{length, drop}
 use denote.Ref.{now}
 use Rattle.laws.proofs.Cases.{on, and-left, and-right}
 use Rattle.calls.proofs.Promises.{Steps}

@@ -3,12 +3,12 @@ use borrow.Author.Needs.{needs}
 use mathlib.Core.Path.{_≡_, sym, ap, _∙_}
 use native.Mathlib.Omega.{arith}
 use Rattle.meaning.specs.Time.{everyGateClosed}
-use Rattle.book.specs.Answers.{oneClosed, gated}
+use Rattle.calls.specs.Answers.{oneClosed, gated}
 use Rattle.book.specs.Structs.{timeIn}
 use Rattle.book.proofs.StateLaws.{clock-time, days-few}
-use Rattle.book.proofs.GateLaws.{next-late, next-open, few-gates}
-use Rattle.book.proofs.gates.close_next.Statement.{statement}
-use Rattle.book.proofs.gates.close_next.Tie as tie
+use Rattle.calls.proofs.GateLaws.{next-late, next-open, few-gates}
+use Rattle.calls.proofs.gates.close_next.Statement.{statement}
+use Rattle.calls.proofs.gates.close_next.Tie as tie
 
 every-closed : (c : tie.After-every-gate-closed) → c .every-gate-closed .result ≡ everyGateClosed (timeIn (c .before .before .args .b))
 every-closed c = c .every-gate-closed .ensures ∙ ap everyGateClosed (clock-time (c .before .before .args .b) (c .before .clock-of .ensures))

@@ -18,10 +18,10 @@ use Rattle.meaning.specs.Books as Meaning
 use Rattle.meaning.specs.Soundness.{sound}
 use Rattle.meaning.specs.Calls.{gate, gateRules, rulesFor, accepted, act}
 use Rattle.meaning.proofs.Clock.{gates-le}
-use Rattle.book.specs.Answers.{nextAnswer, oneClosed, gated}
+use Rattle.calls.specs.Answers.{nextAnswer, oneClosed, gated}
 use Rattle.book.specs.Structs.{timeIn, bookOf}
 use Rattle.book.specs.declared.Book.{Book}
 use Rattle.book.proofs.SoundParts.{codes-count}
 
 -- ---- the answers
 

@@ -1,16 +1,16 @@
 // "One call closes the next gate."
-use crate::Book;
 use crate::Gated;
-use crate::numbers;
-use crate::state;
+use book::Book;
+use book::numbers;
+use book::state;
 ghost use mathlib.Core.Path.{_≡_};
 ghost use Rattle.words.specs.Rules.{answer};
 ghost use Rattle.meaning.specs.Calls.{gateRules};
 ghost use Rattle.book.specs.Structs.{bookOf};
-ghost use Rattle.book.specs.Answers.{nextAnswer, gated};
+ghost use Rattle.calls.specs.Answers.{nextAnswer, gated};
 
 // The next gate of a book known to be sound; with a refusal the book as it came.
-pub fn close_next(b: Book) -> Gated
+pub(crate) fn close_next(b: Book) -> Gated
     ensures { λ r. ⌜ r ≡ gated b (nextAnswer b) ⌝ }
 {
     let c = state::clock_of(b);

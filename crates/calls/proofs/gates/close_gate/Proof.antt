@@ -5,11 +5,11 @@ use denote.Ref.{now}
 use borrow.Author.Tests.{not-true, not-false}
 use Rattle.meaning.specs.Ledgers.{contracts}
 use Rattle.meaning.specs.Books as Meaning
-use Rattle.book.specs.Answers.{gated}
+use Rattle.calls.specs.Answers.{gated}
 use Rattle.book.specs.Structs.{bookOf}
-use Rattle.book.proofs.GateLaws.{gate-unsound, gate-sound}
-use Rattle.book.proofs.gates.close_gate.Statement.{statement}
-use Rattle.book.proofs.gates.close_gate.Tie as tie
+use Rattle.calls.proofs.GateLaws.{gate-unsound, gate-sound}
+use Rattle.calls.proofs.gates.close_gate.Statement.{statement}
+use Rattle.calls.proofs.gates.close_gate.Tie as tie
 
 abbrev whole : tie.Start → Meaning.Book contracts
 whole s = bookOf (s .args .b) (now (s .args .held)) (now (s .args .side1)) (now (s .args .side2))
