@@ -50,7 +50,7 @@ countedFromHistory rows events account D period i =
     if matches v w then seenBy (rowAt rows (originatorOf i)) account v else pos 0
 
 -- In the customer's words: "An account's total is the sum over identifiers where both sides stand and are equal, plus for Party 1, minus for
--- Party 2". Over every identifier that can be, "an originating authorisation number with a reference code" of 16 bits: none of it has to be held.
+-- Party 2". Over every identifier that can be, "an originating authorisation number with a reference code" of 16 bits: none of them has to be held.
 unfoldable pub totalFromHistory : List Authorisation → List (Event contracts) → ℕ → ℕ → ℕ → ℤ
 totalFromHistory rows events account D period = sumBelowℤ (length rows * 65536) (countedFromHistory rows events account D period)
 
