@@ -61,6 +61,10 @@ told100 = after start (seven 0 (0 /₁ 1) 100 100 ∷ [])
 abbrev pub told102 : Book contracts
 told102 = after start (seven 0 (0 /₁ 1) 102 102 ∷ [])
 
+-- agent 9 has told 0/1 for day 100
+abbrev pub toldByNine : Book contracts
+toldByNine = after start (nine 0 (0 /₁ 1) 100 100 ∷ [])
+
 -- ---- a chain of refusals: its numbers, its answer, and one of its conditions
 
 abbrev numbers : List Rule → List ℕ

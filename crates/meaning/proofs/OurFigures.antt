@@ -11,7 +11,7 @@ use Rattle.meaning.specs.History.{after}
 use Rattle.meaning.specs.Totals.{totalRules, total, mwh, DayFigures, figuresRules, figures}
 use Rattle.meaning.specs.Bars.{Bar, Blank, OneSide, Agreed, Disagreed, markRules, seenBar, mark}
 use Rattle.meaning.proofs.Stories.{_/₁_, entry, send, tell, has, disagreed, oneSided}
-use Rattle.meaning.proofs.OurBook.{ourSetup, start, nine, told100, gives, meets}
+use Rattle.meaning.proofs.OurBook.{ourSetup, told100, toldByNine, gives, meets}
 
 -- Day 100 alone, of 46 periods, and two slots. Of 0/1, between accounts 0 and 1, agent 7 tells 5000 and 700 kWh in periods 1 and 2, and agent 9 5000
 -- and 701; of 1/1, between accounts 1 and 2, agent 7 tells 2000 in period 1 for both sides.
@@ -131,7 +131,7 @@ theMarks =
     && disagreed (seenBar sales (0 /₁ 1) 0 100 2) (pos 700) (pos 701)
     && disagreed (seenBar sales (0 /₁ 1) 1 100 2) (negℤ (pos 700)) (negℤ (pos 701))
     && oneSided (seenBar told100 (0 /₁ 1) 1 100 1) (negℤ (pos 5))
-    && oneSided (seenBar (after start (nine 0 (0 /₁ 1) 100 100 ∷ [])) (0 /₁ 1) 0 100 1) (pos 5)
+    && oneSided (seenBar toldByNine (0 /₁ 1) 0 100 1) (pos 5)
     && gives (markRules told100 (0 /₁ 1) 1 101 46) 0
     && blank (mark told100 (0 /₁ 1) 1 101 46)
 

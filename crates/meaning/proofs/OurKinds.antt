@@ -4,7 +4,7 @@ use mathlib.Core.Bool.{Bool, _&&_}
 use mathlib.Core.List.{List, [], _∷_}
 use Rattle.meaning.specs.History.{after}
 use Rattle.meaning.proofs.Stories.{_/₁_, cancel, initialIn, replacementIn, additionalIn, refuses}
-use Rattle.meaning.proofs.OurBook.{start, clock, seven, nine, told100, told102}
+use Rattle.meaning.proofs.OurBook.{start, clock, seven, nine, told100, told102, toldByNine}
 
 -- "It is a replacement if its identifier is held and, on a side it writes, states anything on the notification's first day or later": on that day
 -- itself, on a day after its last too, in closed periods alone too; not on the day before, not on the other side, and not once it is nullified
@@ -15,6 +15,8 @@ theReplacement =
     && replacementIn 0 (clock 48 told100) (seven 0 (0 /₁ 1) 100 101)
     && initialIn 0 told100 (seven 0 (0 /₁ 1) 101 102)
     && initialIn 0 told100 (nine 0 (0 /₁ 1) 100 100)
+    && initialIn 0 toldByNine (seven 0 (0 /₁ 1) 100 100)
+    && replacementIn 0 toldByNine (nine 0 (0 /₁ 1) 100 100)
     && initialIn 0 (after told100 (cancel 0 1 100 ∷ [])) (seven 0 (0 /₁ 1) 100 100)
 
 -- "Otherwise it is additional if another held identifier .. states, on a side it writes, an open period on one of its days": on its first and its
@@ -27,6 +29,8 @@ theAdditional =
     && initialIn 1 told102 (seven 0 (0 /₁ 2) 100 101)
     && additionalIn 1 told102 (seven 0 (0 /₁ 2) 100 65535)
     && initialIn 1 told100 (nine 0 (0 /₁ 2) 100 100)
+    && initialIn 1 toldByNine (seven 0 (0 /₁ 2) 100 100)
+    && additionalIn 1 toldByNine (nine 0 (0 /₁ 2) 100 100)
     && additionalIn 1 (clock 47 told100) (seven 0 (0 /₁ 2) 100 101)
     && initialIn 1 (clock 48 told100) (seven 0 (0 /₁ 2) 100 101)
 
@@ -38,7 +42,6 @@ theSameAccounts =
     && initialIn 1 told100 (seven 4 (4 /₁ 1) 100 100)
     && initialIn 1 told100 (seven 5 (5 /₁ 1) 100 100)
 
--- Agent 7 writes both sides of 1 and 2 under 1 and 6, and of an identifier that states on side 2 alone he is an additional teller under 6.
 -- "12: a replacement, and the type is additional. 13: an additional, and the type is replacement"; a replacement is no additional, and "no type
 -- forbids" an initial one
 abbrev theTypes : Bool

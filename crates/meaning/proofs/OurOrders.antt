@@ -13,8 +13,8 @@ use Rattle.meaning.specs.Rows.{rowRules}
 use Rattle.meaning.specs.PackedMessages as Packed
 use Rattle.meaning.specs.PackedMessages.{readingRules, writingRules}
 use Rattle.meaning.specs.PackedSetups.{setupReadingRules, setupWritingRules}
-use Rattle.meaning.proofs.Stories.{_/₁_, entry, letter, send, tell, cancel, answers, refuses}
-use Rattle.meaning.proofs.OurBook.{grant, ourSetup, start, clock, seven, told100, inOrder, gives}
+use Rattle.meaning.proofs.Stories.{_/₁_, letter, send, tell, cancel, answers, refuses}
+use Rattle.meaning.proofs.OurBook.{ourSetup, start, clock, seven, told100, inOrder, gives}
 
 -- "Order, where several apply: opening 17, 18; notification 1 to 14 as numbered; nullification 1, 2, 15, 9; gate 1, 2; account total 1, 15, 16, 26;
 -- mark 1, 25, 15, 16; row 1, 25, 16; day figures 1, 15, 16."
