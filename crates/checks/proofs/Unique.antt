@@ -1,32 +1,23 @@
--- No two different outcomes satisfy one promise.
-use mathlib.Core.Bool.{Bool}
-use mathlib.Core.List.{List, []}
-use mathlib.Core.Path.{_≡_}
-use Prim.Native.Nat.{ℕ, suc}
-use Rattle.words.specs.Rules.{answer}
+-- No two different results keep one promise of `checks`.
 use Rattle.laws.proofs.Cases.{one-outcome}
-use Rattle.meaning.specs.Ledgers.{slotFor}
-use Rattle.messages.specs.declared.Notification.{Notification}
-use Rattle.messages.specs.declared.Nullification.{Nullification}
-use Rattle.messages.specs.Structs.{notificationOf}
-use Rattle.book.specs.Structs.{bookOf}
-use Rattle.book.specs.declared.Book.{Book}
-use Rattle.checks.specs.Checks.{checkRules, lateRules, pairRules}
+use Rattle.laws.proofs.Promises.{OneResult}
+use Rattle.checks.proofs.notifications.checks_refusal.Reads as checks-refusal
+use Rattle.checks.proofs.notifications.late_refusal.Reads as late-refusal
+use Rattle.checks.proofs.slots.entry_of.Reads as entry-of
+use Rattle.checks.proofs.slots.slot_for.Reads as slot-for
+use Rattle.checks.proofs.nullifications.judge_nullification.Reads as judge-nullification
 
-pub unique-checks-refusal : (b : Book) (n : Notification) (r r′ : ℕ)
-    → r ≡ answer (checkRules (bookOf b [] [] []) (notificationOf n)) → r′ ≡ answer (checkRules (bookOf b [] [] []) (notificationOf n)) → r ≡ r′
-unique-checks-refusal b n r r′ p q = one-outcome p q
+pub unique-checks-refusal : OneResult checks-refusal.Post
+unique-checks-refusal κs a r r′ s s′ = one-outcome
 
-pub unique-late-refusal : (kind amendment slot slots r r′ : ℕ)
-    → r ≡ answer (lateRules kind amendment slot slots) → r′ ≡ answer (lateRules kind amendment slot slots) → r ≡ r′
-unique-late-refusal kind amendment slot slots r r′ p q = one-outcome p q
+pub unique-late-refusal : OneResult late-refusal.Post
+unique-late-refusal κs a r r′ s s′ = one-outcome
 
-pub unique-entry-of : (n : Notification) (r r′ : ℕ) → r ≡ suc (notificationOf n .identifier) → r′ ≡ suc (notificationOf n .identifier) → r ≡ r′
-unique-entry-of n r r′ p q = one-outcome p q
+pub unique-entry-of : OneResult entry-of.Post
+unique-entry-of κs a r r′ s s′ = one-outcome
 
-pub unique-slot-for : (held : List ℕ) (n : Notification) (r r′ : ℕ)
-    → r ≡ slotFor held (notificationOf n .identifier) → r′ ≡ slotFor held (notificationOf n .identifier) → r ≡ r′
-unique-slot-for held n r r′ p q = one-outcome p q
+pub unique-slot-for : OneResult slot-for.Post
+unique-slot-for κs a r r′ s s′ = one-outcome
 
-pub unique-judge-nullification : (b : Book) (x : Nullification) (r r′ : ℕ) → r ≡ answer (pairRules b x) → r′ ≡ answer (pairRules b x) → r ≡ r′
-unique-judge-nullification b x r r′ p q = one-outcome p q
+pub unique-judge-nullification : OneResult judge-nullification.Post
+unique-judge-nullification κs a r r′ s s′ = one-outcome

@@ -1,34 +1,35 @@
--- No two different outcomes satisfy one promise of `clock`: each promise is one equation for the result.
-use mathlib.Core.Bool.{Bool}
-use mathlib.Core.Path.{_≡_}
-use Prim.Native.Nat.{ℕ}
+-- No two different results keep one promise of `clock`: each promise is one equation for the result.
 use Rattle.laws.proofs.Cases.{one-outcome}
-use Rattle.meaning.specs.Time.{periodsOfCode, periodsAt, isPeriodAt, gatesBefore, isOpenAt, hasDay, everyGateClosed, currentDay}
-use Rattle.clock.specs.Structs.{timeOf}
-use Rattle.clock.specs.declared.Clock.{Clock}
+use Rattle.laws.proofs.Promises.{OneResult}
+use Rattle.clock.proofs.periods_of.Reads as periods-of
+use Rattle.clock.proofs.periods_at.Reads as periods-at
+use Rattle.clock.proofs.gates_before.Reads as gates-before
+use Rattle.clock.proofs.is_open_at.Reads as is-open-at
+use Rattle.clock.proofs.is_period_at.Reads as is-period-at
+use Rattle.clock.proofs.every_gate_closed.Reads as every-gate-closed
+use Rattle.clock.proofs.current_day.Reads as current-day
+use Rattle.clock.proofs.has_day.Reads as has-day
 
-pub unique-periods-of : (code r r′ : ℕ) → r ≡ periodsOfCode code → r′ ≡ periodsOfCode code → r ≡ r′
-unique-periods-of code r r′ p q = one-outcome p q
+pub unique-periods-of : OneResult periods-of.Post
+unique-periods-of κs a r r′ s s′ = one-outcome
 
-pub unique-periods-at : (c : Clock) (d r r′ : ℕ) → r ≡ periodsAt (timeOf c .codes) d → r′ ≡ periodsAt (timeOf c .codes) d → r ≡ r′
-unique-periods-at c d r r′ p q = one-outcome p q
+pub unique-periods-at : OneResult periods-at.Post
+unique-periods-at κs a r r′ s s′ = one-outcome
 
-pub unique-gates-before : (c : Clock) (d r r′ : ℕ) → r ≡ gatesBefore (timeOf c .codes) d → r′ ≡ gatesBefore (timeOf c .codes) d → r ≡ r′
-unique-gates-before c d r r′ p q = one-outcome p q
+pub unique-gates-before : OneResult gates-before.Post
+unique-gates-before κs a r r′ s s′ = one-outcome
 
-pub unique-is-open-at : (c : Clock) (d period : ℕ) (r r′ : Bool)
-    → r ≡ isOpenAt (timeOf c .codes) (c .closed) d period → r′ ≡ isOpenAt (timeOf c .codes) (c .closed) d period → r ≡ r′
-unique-is-open-at c d period r r′ p q = one-outcome p q
+pub unique-is-open-at : OneResult is-open-at.Post
+unique-is-open-at κs a r r′ s s′ = one-outcome
 
-pub unique-is-period-at : (c : Clock) (d period : ℕ) (r r′ : Bool)
-    → r ≡ isPeriodAt (timeOf c .codes) d period → r′ ≡ isPeriodAt (timeOf c .codes) d period → r ≡ r′
-unique-is-period-at c d period r r′ p q = one-outcome p q
+pub unique-is-period-at : OneResult is-period-at.Post
+unique-is-period-at κs a r r′ s s′ = one-outcome
 
-pub unique-every-gate-closed : (c : Clock) (r r′ : Bool) → r ≡ everyGateClosed (timeOf c) → r′ ≡ everyGateClosed (timeOf c) → r ≡ r′
-unique-every-gate-closed c r r′ p q = one-outcome p q
+pub unique-every-gate-closed : OneResult every-gate-closed.Post
+unique-every-gate-closed κs a r r′ s s′ = one-outcome
 
-pub unique-current-day : (c : Clock) (r r′ : ℕ) → r ≡ currentDay (timeOf c) → r′ ≡ currentDay (timeOf c) → r ≡ r′
-unique-current-day c r r′ p q = one-outcome p q
+pub unique-current-day : OneResult current-day.Post
+unique-current-day κs a r r′ s s′ = one-outcome
 
-pub unique-has-day : (c : Clock) (day : ℕ) (r r′ : Bool) → r ≡ hasDay (timeOf c) day → r′ ≡ hasDay (timeOf c) day → r ≡ r′
-unique-has-day c day r r′ p q = one-outcome p q
+pub unique-has-day : OneResult has-day.Post
+unique-has-day κs a r r′ s s′ = one-outcome

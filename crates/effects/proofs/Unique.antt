@@ -1,27 +1,17 @@
--- No two different outcomes satisfy one promise: of `volumes_of` the volumes, of the others the table left.
-use mathlib.Core.List.{List}
-use mathlib.Core.Path.{_≡_}
-use Prim.Native.Nat.{ℕ, suc}
-use lib.IntN.{ℤ}
-use Rattle.words.specs.Lists.{build, mapAt}
+-- No two different outcomes keep one promise of `effects`: of `volumes_of` the volumes, of the others the table left.
+use denote.Ref.{now}
 use Rattle.laws.proofs.Cases.{one-outcome}
-use Rattle.meaning.specs.Ledgers.{Side, one}
-use Rattle.meaning.specs.Messages.{volume}
-use Rattle.messages.specs.declared.Notification.{Notification}
-use Rattle.messages.specs.Structs.{notificationOf}
-use Rattle.clock.specs.declared.Clock.{Clock}
-use Rattle.clock.specs.Structs.{timeOf}
-use Rattle.book.specs.declared.Book.{Book}
-use Rattle.effects.specs.Effects.{slotRule, pairBlanked}
+use Rattle.laws.proofs.Promises.{OneOutcome, OneResult}
+use Rattle.meaning.specs.Ledgers.{one}
+use Rattle.effects.proofs.volumes_of.Reads as volumes-of
+use Rattle.effects.proofs.write_slot.Reads as write-slot
+use Rattle.effects.proofs.blank_pair.Reads as blank-pair
 
-pub unique-volumes-of : (n : Notification) (r r′ : List ℤ)
-    → r ≡ build 50 (λ (p : ℕ). volume (notificationOf n .entries) (suc p)) → r′ ≡ build 50 (λ (p : ℕ). volume (notificationOf n .entries) (suc p)) → r ≡ r′
-unique-volumes-of n r r′ p q = one-outcome p q
+pub unique-volumes-of : OneResult volumes-of.Post
+unique-volumes-of κs a r r′ s s′ = one-outcome
 
-pub unique-write-slot : (c : Clock) (slot first last : ℕ) (volumes side left left′ : List ℤ)
-    → left ≡ mapAt (slotRule (timeOf c) slot first (suc last) volumes) side → left′ ≡ mapAt (slotRule (timeOf c) slot first (suc last) volumes) side → left ≡ left′
-unique-write-slot c slot first last volumes side left left′ p q = one-outcome p q
+pub unique-write-slot : OneOutcome write-slot.Post (λ κs r s. now (s .0))
+unique-write-slot κs a r r′ s s′ = one-outcome
 
-pub unique-blank-pair : (b : Book) (account other first : ℕ) (held : List ℕ) (side left left′ : List ℤ)
-    → ((σ : Side) → left ≡ pairBlanked b account other first held σ side) → ((σ : Side) → left′ ≡ pairBlanked b account other first held σ side) → left ≡ left′
-unique-blank-pair b account other first held side left left′ p q = one-outcome (p one) (q one)
+pub unique-blank-pair : OneOutcome blank-pair.Post (λ κs r s. now (s .0))
+unique-blank-pair κs a r r′ s s′ p q = one-outcome (p one) (q one)

@@ -1,27 +1,24 @@
--- No two different outcomes satisfy one promise of `ledger`: each is one equation for the result, and of a run of stores for the table left.
-use mathlib.Core.Bool.{Bool}
-use mathlib.Core.List.{List}
-use mathlib.Core.Path.{_≡_}
-use Prim.Native.Nat.{ℕ}
-use lib.IntN.{ℤ}
-use lib.ListN.{getD, replicate}
-use lib.Seq.{sets}
-use Rattle.words.specs.Lists.{find}
+-- No two different outcomes keep one promise of `ledger`: each is one equation for the result, and of a run of stores for the table left.
+use denote.Ref.{now}
 use Rattle.laws.proofs.Cases.{one-outcome}
-use Rattle.meaning.specs.Ledgers.{contracts, stands, theMark}
+use Rattle.laws.proofs.Promises.{OneOutcome, OneResult}
+use Rattle.ledger.proofs.states.Reads as states
+use Rattle.ledger.proofs.volume_at.Reads as volume-at
+use Rattle.ledger.proofs.slot_with.Reads as slot-with
+use Rattle.ledger.proofs.store_run.Reads as store-run
+use Rattle.ledger.proofs.blank_run.Reads as blank-run
 
-pub unique-states : (v : ℤ) (r r′ : Bool) → r ≡ stands contracts v → r′ ≡ stands contracts v → r ≡ r′
-unique-states v r r′ p q = one-outcome p q
+pub unique-states : OneResult states.Post
+unique-states κs a r r′ s s′ = one-outcome
 
-pub unique-volume-at : (side : List ℤ) (place : ℕ) (r r′ : ℤ) → r ≡ getD side place theMark → r′ ≡ getD side place theMark → r ≡ r′
-unique-volume-at side place r r′ p q = one-outcome p q
+pub unique-volume-at : OneResult volume-at.Post
+unique-volume-at κs a r r′ s s′ = one-outcome
 
-pub unique-slot-with : (held : List ℕ) (entry r r′ : ℕ) → r ≡ find entry held → r′ ≡ find entry held → r ≡ r′
-unique-slot-with held entry r r′ p q = one-outcome p q
+pub unique-slot-with : OneResult slot-with.Post
+unique-slot-with κs a r r′ s s′ = one-outcome
 
-pub unique-store-run : (side : List ℤ) (at : ℕ) (values t t′ : List ℤ) → t ≡ sets side at values → t′ ≡ sets side at values → t ≡ t′
-unique-store-run side at values t t′ p q = one-outcome p q
+pub unique-store-run : OneOutcome store-run.Post (λ κs r s. now (s .0))
+unique-store-run κs a r r′ s s′ = one-outcome
 
-pub unique-blank-run : (side : List ℤ) (at count : ℕ) (t t′ : List ℤ)
-    → t ≡ sets side at (replicate count theMark) → t′ ≡ sets side at (replicate count theMark) → t ≡ t′
-unique-blank-run side at count t t′ p q = one-outcome p q
+pub unique-blank-run : OneOutcome blank-run.Post (λ κs r s. now (s .0))
+unique-blank-run κs a r r′ s s′ = one-outcome

@@ -1,25 +1,15 @@
--- The promises of writing pin every result and the whole buffer: two outcomes that keep a promise are one.
-use mathlib.Core.List.{List}
-use mathlib.Core.Path.{_≡_, sym, _∙_}
-use Prim.Native.Nat.{ℕ}
-use Rattle.words.specs.Rules.{answer}
+-- No two different outcomes keep one promise of writing: of `write_message` the result and the buffer left.
+use denote.Ref.{now}
 use Rattle.laws.proofs.Cases.{one-outcome}
-use Rattle.meaning.specs.PackedMessages.{writingRules, writeMessage}
-use Rattle.messages.specs.Structs.{messageOf}
-use Rattle.message_writing.specs.Structs.{messageWritten}
-use Rattle.messages.specs.declared.Message.{Message}
-use Rattle.message_writing.specs.declared.MessageWritten.{MessageWritten}
+use Rattle.laws.proofs.Promises.{OneOutcome, OneResult}
+use Rattle.message_writing.proofs.writing_refusal.Reads as writing-refusal
+use Rattle.message_writing.proofs.write_message.Reads as write-message
 
--- what `writing_refusal` promises of its result, and `write_message` of its result and of the buffer that it leaves
-abbrev pub RefusesWriting : Message → ℕ → ℕ → Type 0
-RefusesWriting m room r = r ≡ answer (writingRules (messageOf m) room)
+pub unique-writing-refusal : OneResult writing-refusal.Post
+unique-writing-refusal κs a r r′ s s′ = one-outcome
 
-abbrev pub WritesMessage : Message → List ℕ → MessageWritten → List ℕ → Type 0
-WritesMessage m out r left = (r ≡ messageWritten (writeMessage (messageOf m) out)) × (left ≡ writeMessage (messageOf m) out .out)
-
-pub unique-writing-refusal : (m : Message) (room r s : ℕ) → RefusesWriting m room r → RefusesWriting m room s → r ≡ s
-unique-writing-refusal m room r s = one-outcome
-
-pub unique-write-message : (m : Message) (out : List ℕ) (r s : MessageWritten) (left end : List ℕ)
-    → WritesMessage m out r left → WritesMessage m out s end → (r ≡ s) × (left ≡ end)
-unique-write-message m out r s left end p q = (p .0 ∙ sym (q .0), p .1 ∙ sym (q .1))
+pub unique-write-message : OneResult write-message.Post × OneOutcome write-message.Post (λ κs r s. now (s .1 .0))
+unique-write-message = (
+  λ κs a r r′ s s′ p q. one-outcome (p .0) (q .0),
+  λ κs a r r′ s s′ p q. one-outcome (p .1) (q .1),
+)

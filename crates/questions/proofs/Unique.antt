@@ -1,10 +1,7 @@
--- A field has one value: any two that meet the contract are equal.
-use mathlib.Core.Path.{_≡_}
-use Prim.Native.Nat.{ℕ}
-use lib.IntN.{ℤ}
+-- A field has one value: any two that keep the promise are equal.
 use Rattle.laws.proofs.Cases.{one-outcome}
-use Rattle.messages.specs.declared.Message.{Message}
-use Rattle.questions.specs.Questions.{messageField}
+use Rattle.laws.proofs.Promises.{OneResult}
+use Rattle.questions.proofs.message_field.Reads as message-field
 
-pub unique-message-field : (m : Message) (field : ℕ) (r r′ : ℤ) → r ≡ messageField m field → r′ ≡ messageField m field → r ≡ r′
-unique-message-field m field r r′ = one-outcome
+pub unique-message-field : OneResult message-field.Post
+unique-message-field κs a r r′ s s′ = one-outcome

@@ -1,17 +1,11 @@
--- No two different outcomes satisfy one promise of reading: each promise is one equation for the result.
-use mathlib.Core.List.{List}
-use mathlib.Core.Path.{_≡_}
-use Prim.Native.Nat.{ℕ}
-use Rattle.words.specs.Rules.{answer}
+-- No two different results keep one promise of reading.
 use Rattle.laws.proofs.Cases.{one-outcome}
-use Rattle.meaning.specs.PackedSetups.{readSetup, setupReadingRules}
-use Rattle.setup_reading.specs.declared.SetupRead.{SetupRead}
-use Rattle.setup_reading.specs.Structs.{setupRead}
+use Rattle.laws.proofs.Promises.{OneResult}
+use Rattle.setup_reading.proofs.reading_refusal.Reads as reading-refusal
+use Rattle.setup_reading.proofs.read_setup.Reads as read-setup
 
-pub unique-reading-refusal : (s : List ℕ) (slots lent1 lent2 r r′ : ℕ)
-    → r ≡ answer (setupReadingRules s slots lent1 lent2) → r′ ≡ answer (setupReadingRules s slots lent1 lent2) → r ≡ r′
-unique-reading-refusal s slots lent1 lent2 r r′ = one-outcome
+pub unique-reading-refusal : OneResult reading-refusal.Post
+unique-reading-refusal κs a r r′ s s′ = one-outcome
 
-pub unique-read-setup : (s : List ℕ) (slots lent1 lent2 : ℕ) (r r′ : SetupRead)
-    → r ≡ setupRead (readSetup s slots lent1 lent2) → r′ ≡ setupRead (readSetup s slots lent1 lent2) → r ≡ r′
-unique-read-setup s slots lent1 lent2 r r′ = one-outcome
+pub unique-read-setup : OneResult read-setup.Post
+unique-read-setup κs a r r′ s s′ = one-outcome

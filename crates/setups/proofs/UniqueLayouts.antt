@@ -1,15 +1,15 @@
--- Each size has one value: any two that meet its contract are equal.
-use mathlib.Core.Path.{_≡_}
-use Prim.Native.Nat.{ℕ}
-use Rattle.words.specs.Fields.{bytesFor, padding, total}
+-- No two different results keep one promise of the sizes.
 use Rattle.laws.proofs.Cases.{one-outcome}
-use Rattle.meaning.specs.PackedSetups.{setupLayoutFor}
+use Rattle.laws.proofs.Promises.{OneResult}
+use Rattle.setups.proofs.layouts.bits_for.Reads as bits-for
+use Rattle.setups.proofs.layouts.bytes_for.Reads as bytes-for
+use Rattle.setups.proofs.layouts.padding_for.Reads as padding-for
 
-pub unique-bits-for : (days rows r r′ : ℕ) → r ≡ total (setupLayoutFor days rows) → r′ ≡ total (setupLayoutFor days rows) → r ≡ r′
-unique-bits-for days rows r r′ = one-outcome
+pub unique-bits-for : OneResult bits-for.Post
+unique-bits-for κs a r r′ s s′ = one-outcome
 
-pub unique-bytes-for : (days rows r r′ : ℕ) → r ≡ bytesFor (setupLayoutFor days rows) → r′ ≡ bytesFor (setupLayoutFor days rows) → r ≡ r′
-unique-bytes-for days rows r r′ = one-outcome
+pub unique-bytes-for : OneResult bytes-for.Post
+unique-bytes-for κs a r r′ s s′ = one-outcome
 
-pub unique-padding-for : (days rows r r′ : ℕ) → r ≡ padding (setupLayoutFor days rows) → r′ ≡ padding (setupLayoutFor days rows) → r ≡ r′
-unique-padding-for days rows r r′ = one-outcome
+pub unique-padding-for : OneResult padding-for.Post
+unique-padding-for κs a r r′ s s′ = one-outcome

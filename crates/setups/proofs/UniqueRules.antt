@@ -1,36 +1,35 @@
--- Each public rule has one answer: any two that meet its contract are equal.
-use mathlib.Core.Bool.{Bool}
-use mathlib.Core.Path.{_≡_}
-use Prim.Native.Nat.{ℕ}
+-- No two different results keep one promise of the rules.
 use Rattle.laws.proofs.Cases.{one-outcome}
-use Rattle.meaning.specs.Authorisations.{rowWrong}
-use Rattle.meaning.specs.Books.{countsWrong, lastDayWrong, lentWrong, codeWrong, someRowWrong}
-use Rattle.setups.specs.Structs.{rowOf, setupOf}
-use Rattle.setups.specs.Parts.{codeRefusal, amendmentRefusal}
-use Rattle.setups.specs.declared.Authorisation.{Authorisation}
-use Rattle.setups.specs.declared.Setup.{Setup}
+use Rattle.laws.proofs.Promises.{OneResult}
+use Rattle.setups.proofs.rules.counts_wrong.Reads as counts-wrong
+use Rattle.setups.proofs.rules.last_day_wrong.Reads as last-day-wrong
+use Rattle.setups.proofs.rules.lent_wrong.Reads as lent-wrong
+use Rattle.setups.proofs.rules.code_refusal.Reads as code-refusal
+use Rattle.setups.proofs.rules.amendment_refusal.Reads as amendment-refusal
+use Rattle.setups.proofs.rules.code_wrong.Reads as code-wrong
+use Rattle.setups.proofs.rules.row_wrong.Reads as row-wrong
+use Rattle.setups.proofs.rules.some_row_wrong.Reads as some-row-wrong
 
-pub unique-counts-wrong : (s : Setup) (r r′ : Bool) → r ≡ countsWrong (setupOf s) → r′ ≡ countsWrong (setupOf s) → r ≡ r′
-unique-counts-wrong s r r′ = one-outcome
+pub unique-counts-wrong : OneResult counts-wrong.Post
+unique-counts-wrong κs a r r′ s s′ = one-outcome
 
-pub unique-last-day-wrong : (s : Setup) (r r′ : Bool) → r ≡ lastDayWrong (setupOf s) → r′ ≡ lastDayWrong (setupOf s) → r ≡ r′
-unique-last-day-wrong s r r′ = one-outcome
+pub unique-last-day-wrong : OneResult last-day-wrong.Post
+unique-last-day-wrong κs a r r′ s s′ = one-outcome
 
-pub unique-lent-wrong : (s : Setup) (slots lent1 lent2 : ℕ) (r r′ : Bool)
-    → r ≡ lentWrong (setupOf s) slots lent1 lent2 → r′ ≡ lentWrong (setupOf s) slots lent1 lent2 → r ≡ r′
-unique-lent-wrong s slots lent1 lent2 r r′ = one-outcome
+pub unique-lent-wrong : OneResult lent-wrong.Post
+unique-lent-wrong κs a r r′ s s′ = one-outcome
 
-pub unique-code-refusal : (code r r′ : ℕ) → r ≡ codeRefusal code → r′ ≡ codeRefusal code → r ≡ r′
-unique-code-refusal code r r′ = one-outcome
+pub unique-code-refusal : OneResult code-refusal.Post
+unique-code-refusal κs a r r′ s s′ = one-outcome
 
-pub unique-amendment-refusal : (amendment r r′ : ℕ) → r ≡ amendmentRefusal amendment → r′ ≡ amendmentRefusal amendment → r ≡ r′
-unique-amendment-refusal amendment r r′ = one-outcome
+pub unique-amendment-refusal : OneResult amendment-refusal.Post
+unique-amendment-refusal κs a r r′ s s′ = one-outcome
 
-pub unique-code-wrong : (s : Setup) (r r′ : Bool) → r ≡ codeWrong (setupOf s) → r′ ≡ codeWrong (setupOf s) → r ≡ r′
-unique-code-wrong s r r′ = one-outcome
+pub unique-code-wrong : OneResult code-wrong.Post
+unique-code-wrong κs a r r′ s s′ = one-outcome
 
-pub unique-row-wrong : (accounts : ℕ) (a : Authorisation) (r r′ : Bool) → r ≡ rowWrong accounts (rowOf a) → r′ ≡ rowWrong accounts (rowOf a) → r ≡ r′
-unique-row-wrong accounts a r r′ = one-outcome
+pub unique-row-wrong : OneResult row-wrong.Post
+unique-row-wrong κs a r r′ s s′ = one-outcome
 
-pub unique-some-row-wrong : (s : Setup) (r r′ : Bool) → r ≡ someRowWrong (setupOf s) → r′ ≡ someRowWrong (setupOf s) → r ≡ r′
-unique-some-row-wrong s r r′ = one-outcome
+pub unique-some-row-wrong : OneResult some-row-wrong.Post
+unique-some-row-wrong κs a r r′ s s′ = one-outcome

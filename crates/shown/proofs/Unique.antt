@@ -1,21 +1,19 @@
--- No two different outcomes satisfy one promise.
-use mathlib.Core.Bool.{Bool}
-use mathlib.Core.Path.{_≡_}
-use Prim.Native.Nat.{ℕ}
-use lib.Ieee.{Float}
-use lib.IntN.{ℤ}
+-- No two different results keep one promise of `shown`.
 use Rattle.laws.proofs.Cases.{one-outcome}
-use Rattle.shown.specs.Figures.{caseOf, firstOf, secondOf, barSeen}
-use Rattle.shown.specs.declared.Bar.{Bar}
+use Rattle.laws.proofs.Promises.{OneResult}
+use Rattle.shown.proofs.bar_of.Reads as bar-of
+use Rattle.shown.proofs.case_of.Reads as case-of
+use Rattle.shown.proofs.first_of.Reads as first-of
+use Rattle.shown.proofs.second_of.Reads as second-of
 
-pub unique-bar-of : (first : Bool) (v w : ℤ) (r r′ : Bar) → r ≡ barSeen first v w → r′ ≡ barSeen first v w → r ≡ r′
-unique-bar-of first v w r r′ p q = one-outcome p q
+pub unique-bar-of : OneResult bar-of.Post
+unique-bar-of κs a r r′ s s′ = one-outcome
 
-pub unique-case-of : (bar : Bar) (r r′ : ℕ) → r ≡ caseOf bar → r′ ≡ caseOf bar → r ≡ r′
-unique-case-of bar r r′ p q = one-outcome p q
+pub unique-case-of : OneResult case-of.Post
+unique-case-of κs a r r′ s s′ = one-outcome
 
-pub unique-first-of : (bar : Bar) (r r′ : Float) → r ≡ firstOf bar → r′ ≡ firstOf bar → r ≡ r′
-unique-first-of bar r r′ p q = one-outcome p q
+pub unique-first-of : OneResult first-of.Post
+unique-first-of κs a r r′ s s′ = one-outcome
 
-pub unique-second-of : (bar : Bar) (r r′ : Float) → r ≡ secondOf bar → r′ ≡ secondOf bar → r ≡ r′
-unique-second-of bar r r′ p q = one-outcome p q
+pub unique-second-of : OneResult second-of.Post
+unique-second-of κs a r r′ s s′ = one-outcome

@@ -1,27 +1,19 @@
--- No two different outcomes satisfy one promise.
-use mathlib.Core.Bool.{Bool}
-use mathlib.Core.List.{List}
-use mathlib.Core.Path.{_≡_}
-use Prim.Native.Nat.{ℕ}
-use lib.IntN.{ℤ}
-use lib.ListN.{length, getD}
-use Rattle.words.specs.Below.{everyBelow}
+-- No two different results keep one promise of `soundness`.
 use Rattle.laws.proofs.Cases.{one-outcome}
-use Rattle.meaning.specs.Ledgers.{theMark}
-use Rattle.meaning.specs.Soundness.{heldRight}
-use Rattle.clock.specs.declared.Clock.{Clock}
-use Rattle.soundness.specs.Parts.{blank, right, sideRight}
+use Rattle.laws.proofs.Promises.{OneResult}
+use Rattle.soundness.proofs.all_blank.Reads as all-blank
+use Rattle.soundness.proofs.all_right.Reads as all-right
+use Rattle.soundness.proofs.held_right.Reads as held-right
+use Rattle.soundness.proofs.side_right.Reads as side-right
 
-pub unique-all-blank : (part : List ℤ) (r r′ : Bool)
-    → r ≡ everyBelow (length part) (λ (k : ℕ). blank (getD part k theMark)) → r′ ≡ everyBelow (length part) (λ (k : ℕ). blank (getD part k theMark)) → r ≡ r′
-unique-all-blank part r r′ p q = one-outcome p q
+pub unique-all-blank : OneResult all-blank.Post
+unique-all-blank κs a r r′ s s′ = one-outcome
 
-pub unique-all-right : (part : List ℤ) (r r′ : Bool)
-    → r ≡ everyBelow (length part) (λ (k : ℕ). right (getD part k theMark)) → r′ ≡ everyBelow (length part) (λ (k : ℕ). right (getD part k theMark)) → r ≡ r′
-unique-all-right part r r′ p q = one-outcome p q
+pub unique-all-right : OneResult all-right.Post
+unique-all-right κs a r r′ s s′ = one-outcome
 
-pub unique-held-right : (held : List ℕ) (known : ℕ) (r r′ : Bool) → r ≡ heldRight known held → r′ ≡ heldRight known held → r ≡ r′
-unique-held-right held known r r′ p q = one-outcome p q
+pub unique-held-right : OneResult held-right.Post
+unique-held-right κs a r r′ s s′ = one-outcome
 
-pub unique-side-right : (side : List ℤ) (held : List ℕ) (c : Clock) (r r′ : Bool) → r ≡ sideRight side held c → r′ ≡ sideRight side held c → r ≡ r′
-unique-side-right side held c r r′ p q = one-outcome p q
+pub unique-side-right : OneResult side-right.Post
+unique-side-right κs a r r′ s s′ = one-outcome
