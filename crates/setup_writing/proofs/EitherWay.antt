@@ -3,6 +3,8 @@ use mathlib.Core.Bool.{false}
 use mathlib.Core.List.{List, _++_}
 use mathlib.Core.Path.{_≡_, sym, ap, _∙_}
 use Prim.Native.Nat.{ℕ, _≤_}
+use contract.Lifetimes.{Lfts}
+use denote.Ref.{RefT, now}
 use lib.ListN.{length, getD, take, drop}
 use borrow.Author.Tests.{lt-ltb, le-ltb}
 use Rattle.words.specs.Lists.{build}
@@ -17,7 +19,11 @@ use Rattle.meaning.proofs.EitherWaySetups.{setup-written-reads, setup-read-writ
 use Rattle.meaning.proofs.PackedSetupRules.{setup-reading-answer, setup-reading-done, setup-readable}
 use Rattle.setups.specs.Structs.{noAuthorisation, rowOf, rowFor, rowsOf, codesOf, setupOf, setupFor}
 use Rattle.setup_reading.specs.Structs.{setupRead}
+use Rattle.setup_reading.specs.declared.SetupRead.{SetupRead}
+use Rattle.setup_reading.proofs.read_setup.Reads as read-setup
 use Rattle.setup_writing.specs.Structs.{setupWritten, settled}
+use Rattle.setup_writing.specs.declared.SetupWritten.{SetupWritten}
+use Rattle.setup_writing.proofs.write_setup.Reads as write-setup
 use Rattle.setups.specs.declared.Setup.{Setup}
 use Rattle.setup_reading.proofs.ReadParts.{struct-holds, few-codes, few-rows}
 
@@ -78,3 +84,23 @@ pub read-setup-writes : (bytes out : List ℕ) (slots lent1 lent2 : ℕ) → Byt
 unfolding setupRead
 read-setup-writes bytes out slots lent1 lent2 b c e l =
     rw (read-holds bytes slots lent1 lent2 e) (setup-read-writes bytes out slots lent1 lent2 b c e l)
+
+-- the same of the functions' own promises: what `write_setup` leaves, `read_setup` gives back
+pub write-then-read-setup : (κs κs′ : Lfts 1) (s : Setup) (out left : RefT (List ℕ)) (slots lent1 lent2 : ℕ) (r : SetupWritten) (r′ : SetupRead)
+    → write-setup.Post κs (s, (out, tt)) r (s, (left, tt)) → read-setup.Post κs′ (left, (slots, (lent1, (lent2, tt)))) r′ (left, (slots, (lent1, (lent2, tt))))
+    → r .answer ≡ 0 → lentWrong (setupOf s) slots lent1 lent2 ≡ false → r′ ≡ record { answer = 0; length = r .length; setup = settled s }
+write-then-read-setup κs κs′ s out left slots lent1 lent2 r r′ p q e h =
+    q
+    ∙ ap (λ (bytes : List ℕ). setupRead (readSetup bytes slots lent1 lent2)) (p .1)
+    ∙ written-setup-reads s (now out) slots lent1 lent2 (ap (λ (w : SetupWritten). w .answer) (sym (p .0)) ∙ e) h
+    ∙ ap (λ (w : SetupWritten). record { answer = 0; length = w .length; setup = settled s }) (sym (p .0))
+
+-- and what `read_setup` gives, `write_setup` writes again, over the front of its buffer
+pub read-then-write-setup : (κs κs′ : Lfts 1) (bytes out left : RefT (List ℕ)) (slots lent1 lent2 : ℕ) (r : SetupRead) (r′ : SetupWritten)
+    → read-setup.Post κs (bytes, (slots, (lent1, (lent2, tt)))) r (bytes, (slots, (lent1, (lent2, tt)))) → write-setup.Post κs′ (r .setup, (out, tt)) r′ (r .setup, (left, tt))
+    → Bytes (now bytes) → Bytes (now out) → r .answer ≡ 0 → r .length ≤ length (now out)
+    → (r′ ≡ record { answer = 0; length = r .length }) × (now left ≡ take (r .length) (now bytes) ++ drop (r .length) (now out))
+unfolding setupWritten
+read-then-write-setup κs κs′ bytes out left slots lent1 lent2 r r′ q p b c e l =
+    let again = read-setup-writes (now bytes) (now out) slots lent1 lent2 b c (ap (λ (x : SetupRead). x .answer) (sym q) ∙ e) (rw q at l) in
+    (p .0 ∙ rw (q, again), p .1 ∙ rw (q, again))
