@@ -1,5 +1,5 @@
 -- The message of a `MessageRead`; and a mark as its numbers.
-use mathlib.Core.Path.{_≡_, refl, ap, _∙_}
+use mathlib.Core.Path.{_≡_, refl, ap}
 use Prim.Native.Nat.{ℕ}
 use lib.Ieee.{Float}
 use Rattle.meaning.specs.PackedMessages.{Packed, Reading}

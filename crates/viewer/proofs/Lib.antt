@@ -6,6 +6,7 @@ pub mod NarrowedTotals
 pub mod NarrowedMarks
 pub mod NarrowedNullification
 pub mod Promises
+pub mod PackedPromises
 pub mod Unique
 pub mod OnePosition
 pub mod PositionFromHistory

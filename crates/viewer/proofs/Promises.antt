@@ -16,6 +16,9 @@ use Rattle.meaning.specs.Rows.{rowRules}
 use Rattle.book.specs.declared.Book.{Book}
 use Rattle.book.specs.Structs.{bookOf}
 use Rattle.calls.specs.Answers.{afterCall}
+use Rattle.position.specs.Totals.{totalled, figured}
+use Rattle.position.specs.declared.Totalled.{Totalled}
+use Rattle.position.specs.declared.Figured.{Figured}
 use Rattle.position.proofs.UniqueTotals.{DayTotalled}
 use Rattle.shown.specs.Figures.{caseOf, firstOf, secondOf}
 use Rattle.bars.specs.Marks.{marked, dayMarkRules, dayMarked}
@@ -26,7 +29,7 @@ use Rattle.viewer.specs.Asked.{named}
 use Rattle.viewer.specs.Numbers.{markNumbers}
 use Rattle.viewer.specs.declared.MarkNumbers.{MarkNumbers}
 use Rattle.viewer.proofs.Answers.{numbers-of}
-use Rattle.viewer.proofs.NarrowedTotals.{day-totals-narrowed}
+use Rattle.viewer.proofs.NarrowedTotals.{total-narrowed, day-totals-narrowed, figures-narrowed}
 use Rattle.viewer.proofs.NarrowedMarks.{mark-narrowed, day-marks-narrowed, row-narrowed}
 use Rattle.viewer.proofs.NarrowedNullification.{nullified-narrowed}
 
@@ -47,7 +50,20 @@ module _ (b : Book) (held : List ℕ) (side1 side2 : List ℤ) where
       subst (λ (m : ℕ × Meaning.Book contracts). (r ≡ m .0) × (l1 ≡ m .1 .ledger .side1) × (l2 ≡ m .1 .ledger .side2))
       (nullified-narrowed before account other first ea eo ef)
 
-  -- ---- the totals of a day: the answer, and the buffer left
+  -- ---- a total, the day's figures; the totals of a day: the answer, and the buffer left
+
+  abbrev pub TotalShown : ℕ → ℕ → ℕ → Totalled → Type 0
+  TotalShown account day period r = r ≡ totalled before account day period
+
+  pub total-kept : (account day period : ℕ) {a d p : ℕ} → a ≡ min account 255 → d ≡ min day 65535 → p ≡ min period 255
+      → (r : Totalled) → TotalShown a d p r → TotalShown account day period r
+  total-kept account day period ea ed ep r e = e ∙ total-narrowed before account day period ea ed ep
+
+  abbrev pub FiguresShown : ℕ → ℕ → Figured → Type 0
+  FiguresShown account day r = r ≡ figured before account day
+
+  pub figures-kept : (account day : ℕ) {a d : ℕ} → a ≡ min account 255 → d ≡ min day 65535 → (r : Figured) → FiguresShown a d r → FiguresShown account day r
+  figures-kept account day ea ed r e = e ∙ figures-narrowed before account day ea ed
 
   pub day-totals-kept : (account day : ℕ) {a d : ℕ} → a ≡ min account 255 → d ≡ min day 65535
       → (lent : List ℤ) (r : ℕ) (left : List ℤ) → DayTotalled b held side1 side2 a d lent r left → DayTotalled b held side1 side2 account day lent r left

@@ -1,58 +1,46 @@
 -- What is promised of the viewer's questions leaves no choice: two answers that both keep the promise are the same. The other exports of books.rt have
--- the promises of the functions that they call, word for word, and their uniqueness stands with those: here are those by identifiers and accounts that
--- the caller names, and those of packed bytes.
+-- the promises of the functions that they call, word for word, and their uniqueness stands with those.
 use mathlib.Core.List.{List}
 use mathlib.Core.Path.{_≡_}
 use Prim.Native.Nat.{ℕ}
 use lib.Ieee.{Float}
 use lib.IntN.{ℤ}
-use Rattle.words.specs.Rules.{answer}
 use Rattle.laws.proofs.Cases.{one-outcome}
-use Rattle.meaning.specs.PackedMessages.{readingRules, readMessage, writeMessage}
-use Rattle.meaning.specs.PackedSetups.{writeSetup}
-use Rattle.messages.specs.Structs.{messageOf}
-use Rattle.message_reading.specs.Structs.{messageRead}
-use Rattle.message_writing.specs.Structs.{messageWritten}
 use Rattle.messages.specs.declared.Message.{Message}
 use Rattle.message_reading.specs.declared.MessageRead.{MessageRead}
 use Rattle.message_writing.specs.declared.MessageWritten.{MessageWritten}
-use Rattle.setups.specs.Structs.{setupOf}
-use Rattle.setup_writing.specs.Structs.{setupWritten}
 use Rattle.setups.specs.declared.Setup.{Setup}
 use Rattle.setup_writing.specs.declared.SetupWritten.{SetupWritten}
 use Rattle.book.specs.declared.Book.{Book}
+use Rattle.position.specs.declared.Totalled.{Totalled}
+use Rattle.position.specs.declared.Figured.{Figured}
+use Rattle.position.proofs.UniqueTotals.{DayTotalled}
 use Rattle.bars.specs.declared.RowPlace.{RowPlace}
 use Rattle.bars.proofs.PlaceLaws.{Placed}
-use Rattle.questions.specs.Questions.{fieldIn}
 use Rattle.viewer.specs.Asked.{named}
 use Rattle.viewer.specs.declared.MarkNumbers.{MarkNumbers}
-use Rattle.viewer.proofs.Promises.{Nullified, MarkShown, DayMarks, RowRefusal}
+use Rattle.viewer.proofs.PackedPromises.{MessageRefusal, MessageLength, MessageField, ReadsMessage, WritesMessage, WritesSetup}
+use Rattle.viewer.proofs.Promises.{Nullified, TotalShown, FiguresShown, MarkShown, DayMarks, RowRefusal}
 
 -- ---- about message bytes
 
-pub unique-message-refusal : (bytes : List ℕ) (r r′ : ℕ) → r ≡ answer (readingRules bytes) → r′ ≡ answer (readingRules bytes) → r ≡ r′
+pub unique-message-refusal : (bytes : List ℕ) (r r′ : ℕ) → MessageRefusal bytes r → MessageRefusal bytes r′ → r ≡ r′
 unique-message-refusal bytes r r′ = one-outcome
 
-pub unique-message-length : (bytes : List ℕ) (r r′ : ℕ) → r ≡ readMessage bytes .length → r′ ≡ readMessage bytes .length → r ≡ r′
+pub unique-message-length : (bytes : List ℕ) (r r′ : ℕ) → MessageLength bytes r → MessageLength bytes r′ → r ≡ r′
 unique-message-length bytes r r′ = one-outcome
 
-pub unique-message-field : (bytes : List ℕ) (field : ℕ) (r r′ : ℤ) → r ≡ fieldIn (readMessage bytes .read) field → r′ ≡ fieldIn (readMessage bytes .read) field → r ≡ r′
+pub unique-message-field : (bytes : List ℕ) (field : ℕ) (r r′ : ℤ) → MessageField bytes field r → MessageField bytes field r′ → r ≡ r′
 unique-message-field bytes field r r′ = one-outcome
 
 -- ---- packed bytes, each buffer left included
 
-pub unique-read-message : (bytes : List ℕ) (r r′ : MessageRead) → r ≡ messageRead (readMessage bytes) → r′ ≡ messageRead (readMessage bytes) → r ≡ r′
+pub unique-read-message : (bytes : List ℕ) (r r′ : MessageRead) → ReadsMessage bytes r → ReadsMessage bytes r′ → r ≡ r′
 unique-read-message bytes r r′ = one-outcome
-
-abbrev pub WritesMessage : Message → List ℕ → MessageWritten → List ℕ → Type 0
-WritesMessage m out r left = (r ≡ messageWritten (writeMessage (messageOf m) out)) × (left ≡ writeMessage (messageOf m) out .out)
 
 pub unique-write-message : (m : Message) (out : List ℕ) (r r′ : MessageWritten) (left left′ : List ℕ)
     → WritesMessage m out r left → WritesMessage m out r′ left′ → (r ≡ r′) × (left ≡ left′)
 unique-write-message m out r r′ left left′ p q = (one-outcome (p .0) (q .0), one-outcome (p .1) (q .1))
-
-abbrev pub WritesSetup : Setup → List ℕ → SetupWritten → List ℕ → Type 0
-WritesSetup s out r left = (r ≡ setupWritten (writeSetup (setupOf s) out)) × (left ≡ writeSetup (setupOf s) out .out)
 
 pub unique-write-setup : (s : Setup) (out : List ℕ) (r r′ : SetupWritten) (left left′ : List ℕ)
     → WritesSetup s out r left → WritesSetup s out r′ left′ → (r ≡ r′) × (left ≡ left′)
@@ -64,6 +52,16 @@ module _ (b : Book) (held : List ℕ) (side1 side2 : List ℤ) where
   pub unique-nullify : (account other first r r′ : ℕ) (l1 l1′ l2 l2′ : List ℤ)
       → Nullified b held side1 side2 account other first r l1 l2 → Nullified b held side1 side2 account other first r′ l1′ l2′ → (r ≡ r′) × (l1 ≡ l1′) × (l2 ≡ l2′)
   unique-nullify account other first r r′ l1 l1′ l2 l2′ p q = (one-outcome (p .0) (q .0), one-outcome (p .1) (q .1), one-outcome (p .2) (q .2))
+
+  pub unique-total : (account day period : ℕ) (r r′ : Totalled) → TotalShown b held side1 side2 account day period r → TotalShown b held side1 side2 account day period r′ → r ≡ r′
+  unique-total account day period r r′ = one-outcome
+
+  pub unique-day-totals : (account day : ℕ) (lent : List ℤ) (r r′ : ℕ) (left left′ : List ℤ)
+      → DayTotalled b held side1 side2 account day lent r left → DayTotalled b held side1 side2 account day lent r′ left′ → (r ≡ r′) × (left ≡ left′)
+  unique-day-totals account day lent r r′ left left′ p q = (one-outcome (p .0) (q .0), one-outcome (p .1) (q .1))
+
+  pub unique-figures : (account day : ℕ) (r r′ : Figured) → FiguresShown b held side1 side2 account day r → FiguresShown b held side1 side2 account day r′ → r ≡ r′
+  unique-figures account day r r′ = one-outcome
 
   module _ (originator reference : ℕ) where
     abbrev identifier : ℕ

@@ -9,6 +9,7 @@ use Rattle.messages.specs.declared.Message.{Message}
 use Rattle.message_reading.specs.declared.MessageRead.{MessageRead}
 use Rattle.questions.specs.Questions.{messageField}
 use Rattle.viewer.proofs.Answers.{message-read}
+use Rattle.viewer.proofs.PackedPromises.{MessageField}
 use Rattle.viewer.proofs.ghendufika_message_field.Statement.{statement}
 use Rattle.viewer.proofs.ghendufika_message_field.Tie as tie
 
@@ -22,9 +23,11 @@ returns : tie.Need-returns
 returns c =
     let a = c .before .before .before .args in
     let m = ap (λ (r : MessageRead). r .message) (c .before .read-message .ensures) ∙ message-read (readMessage (now (a .bytes))) in
+    let kept : MessageField (now (a .bytes)) (a .field) _ =
     toZ-ofZ {w = w64} {z = c .message-field .result} (record { sfits = c .message-field .ok })
     ∙ c .message-field .ensures
-    ∙ ap (λ (x : Message). messageField x (a .field)) m
+    ∙ ap (λ (x : Message). messageField x (a .field)) m in
+    kept
 
 pub ghendufika-message-field-spec : {M : Type 1} → statement M
 ghendufika-message-field-spec =

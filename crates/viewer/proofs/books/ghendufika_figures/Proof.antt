@@ -1,7 +1,6 @@
 -- The promise of the function that it calls, whose numbers are narrowed.
 use borrow.Author.Needs.{needs}
-use mathlib.Core.Path.{_∙_}
-use Rattle.viewer.proofs.NarrowedTotals.{figures-narrowed}
+use Rattle.viewer.proofs.Promises.{figures-kept}
 use Rattle.viewer.proofs.books.ghendufika_figures.Statement.{statement}
 use Rattle.viewer.proofs.books.ghendufika_figures.Tie as tie
 
@@ -16,7 +15,7 @@ figures-requires c κs = search needs
 
 returns : tie.Need-returns
 returns c =
-    c .figures .ensures ∙ figures-narrowed _ _ _ (c .before .before .at-most-255 .ensures) (c .before .at-most-65535 .ensures)
+    figures-kept _ _ _ _ _ _ (c .before .before .at-most-255 .ensures) (c .before .at-most-65535 .ensures) _ (c .figures .ensures)
 
 pub ghendufika-figures-spec : {M : Type 1} → statement M
 ghendufika-figures-spec =

@@ -1,7 +1,6 @@
 -- The promise of the function that it calls, whose numbers are narrowed.
 use borrow.Author.Needs.{needs}
-use mathlib.Core.Path.{_∙_}
-use Rattle.viewer.proofs.NarrowedTotals.{total-narrowed}
+use Rattle.viewer.proofs.Promises.{total-kept}
 use Rattle.viewer.proofs.books.ghendufika_total.Statement.{statement}
 use Rattle.viewer.proofs.books.ghendufika_total.Tie as tie
 
@@ -19,8 +18,8 @@ total-requires c κs = search needs
 
 returns : tie.Need-returns
 returns c =
-    c .total .ensures
-    ∙ total-narrowed _ _ _ _ (c .before .before .before .at-most-255 .ensures) (c .before .before .at-most-65535 .ensures) (c .before .at-most-2552 .ensures)
+    total-kept _ _ _ _ _ _ _ (c .before .before .before .at-most-255 .ensures) (c .before .before .at-most-65535 .ensures) (c .before .at-most-2552 .ensures) _
+    (c .total .ensures)
 
 pub ghendufika-total-spec : {M : Type 1} → statement M
 ghendufika-total-spec =
