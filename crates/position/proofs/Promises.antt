@@ -17,6 +17,11 @@ use Rattle.position.proofs.totals.total.Reads as total
 use Rattle.position.proofs.totals.day_totals.Reads as day-totals
 use Rattle.position.proofs.figures.figures.Reads as figures
 
+-- what `day_totals` ensures of its answer and of what it leaves, as a type
+abbrev pub DayTotalled : Book → List ℕ → List ℤ → List ℤ → ℕ → ℕ → List ℤ → ℕ → List ℤ → Type 0
+DayTotalled b held side1 side2 account day lent r left =
+    (r ≡ answer (dayTotalRules (bookOf b held side1 side2) account day (length lent))) × (left ≡ dayTotals (bookOf b held side1 side2) account day lent)
+
 module _ (b : Book) (held : RefT (List ℕ)) (side1 side2 : RefT (List ℤ)) (account day : ℕ) where
   pub total-promises : (κs : Lfts 3) (period : ℕ) (r : Totalled)
       → total.Post κs (b, (held, (side1, (side2, (account, (day, (period, tt))))))) r (b, (held, (side1, (side2, (account, (day, (period, tt)))))))
@@ -25,8 +30,7 @@ module _ (b : Book) (held : RefT (List ℕ)) (side1 side2 : RefT (List ℤ)) (ac
 
   pub day-totals-promises : (κs : Lfts 4) (lent left : RefT (List ℤ)) (r : ℕ)
       → day-totals.Post κs (b, (held, (side1, (side2, (account, (day, (lent, tt))))))) r (b, (held, (side1, (side2, (account, (day, (left, tt)))))))
-      → (r ≡ answer (dayTotalRules (bookOf b (now held) (now side1) (now side2)) account day (length (now lent))))
-      × (now left ≡ dayTotals (bookOf b (now held) (now side1) (now side2)) account day (now lent))
+      → DayTotalled b (now held) (now side1) (now side2) account day (now lent) r (now left)
   day-totals-promises κs lent left r p = p
 
   pub figures-promises : (κs : Lfts 3) (r : Figured)

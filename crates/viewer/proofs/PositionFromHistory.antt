@@ -22,6 +22,7 @@ use Rattle.meaning.specs.History.{Event, after, eventsOf}
 use Rattle.meaning.specs.Totals.{mwh, totalRules}
 use Rattle.meaning.specs.Bars.{Bar, mapBar, markRules, seenBar, mark}
 use Rattle.meaning.specs.FromHistory.{totalFromHistory, barFromHistory}
+use Rattle.meaning.specs.PackedSetups.{setupIn}
 use Rattle.meaning.proofs.Clock.{is-period-on}
 use Rattle.meaning.proofs.History.{SameBook, after-same}
 use Rattle.meaning.proofs.Shown.{agreedPart}
@@ -33,17 +34,18 @@ use Rattle.setups.specs.Structs.{setupOf}
 use Rattle.messages.specs.declared.Notification.{Notification}
 use Rattle.messages.specs.Structs.{notificationOf}
 use Rattle.book.specs.declared.Opened.{Opened}
-use Rattle.book.specs.Answers.{opened}
-use Rattle.book.proofs.OpeningLaws.{openingAnswer}
+use Rattle.book.specs.declared.OpenedPacked.{OpenedPacked}
 use Rattle.book.proofs.UniqueState.{Opens}
+use Rattle.book.proofs.PackedOpening.{OpensPacked}
 use Rattle.calls.specs.declared.Notified.{Notified}
 use Rattle.calls.proofs.NotifyLaws.{notified-number}
 use Rattle.calls.proofs.Promises.{Notifies}
-use Rattle.calls.proofs.Bridge.{State, whole, Made, holds-after}
+use Rattle.calls.proofs.Bridge.{State, whole, Made, Begins, begun-holds, opens-begins}
+use Rattle.calls.proofs.PackedBridge.{packed-begins}
 use Rattle.position.specs.Totals.{totalled, dayPeriods, dayTotalRules}
 use Rattle.position.specs.declared.Totalled.{Totalled}
 use Rattle.position.proofs.TotalTheorems.{day-total-is-total}
-use Rattle.position.proofs.UniqueTotals.{DayTotalled}
+use Rattle.position.proofs.Promises.{DayTotalled}
 use Rattle.shown.specs.Figures.{barFor}
 use Rattle.bars.specs.Marks.{marked}
 use Rattle.bars.specs.declared.Marked.{Marked}
@@ -188,17 +190,22 @@ module _ (setup : Meaning.Setup) (slots lent1 lent2 : ℕ) (opening : answer (op
         fourteen = fourteen-answered;
       }
 
--- ---- after `open`, and any calls of the proved functions
+-- ---- after `open` or `open_packed`, and any calls of the proved functions
 
-opened-answer : (setup : Setup) (held : List ℕ) (side1 side2 : List ℤ) (r : Opened) (h : List ℕ) (l1 l2 : List ℤ)
-    → Opens setup held side1 side2 r h l1 l2 → r .answer ≡ 0 → openingAnswer setup held side1 side2 ≡ 0
-unfolding opened
-opened-answer setup held side1 side2 r h l1 l2 opening accepted = sym (ap (λ (x : Opened). x .answer) (opening .0)) ∙ accepted
+module _ {start : State} {setup : Meaning.Setup} {slots lent1 lent2 : ℕ} (begins : Begins start setup slots lent1 lent2) (t : State) (calls : List (Call contracts)) where
+  begun-follows : Made start calls t → FollowsHistory t setup slots calls
+  begun-follows made = follows-history setup slots lent1 lent2 (begins .unrefused) calls t (begun-holds begins t calls made)
 
 pub position-follows-history : (setup : Setup) (held : List ℕ) (side1 side2 : List ℤ) (r : Opened) (h : List ℕ) (l1 l2 : List ℤ)
     → Opens setup held side1 side2 r h l1 l2 → r .answer ≡ 0
     → (t : State) (calls : List (Call contracts)) → Made (record { book = r .book; held = h; side1 = l1; side2 = l2 }) calls t
     → FollowsHistory t (setupOf setup) (length held) calls
 position-follows-history setup held side1 side2 r h l1 l2 opening accepted t calls made =
-    follows-history (setupOf setup) (length held) (length side1) (length side2) (opened-answer setup held side1 side2 r h l1 l2 opening accepted) calls t
-    (holds-after setup held side1 side2 r h l1 l2 opening accepted t calls made)
+    begun-follows (opens-begins setup held side1 side2 r h l1 l2 opening accepted) t calls made
+
+pub packed-position-follows-history : (bytes held : List ℕ) (side1 side2 : List ℤ) (r : OpenedPacked) (h : List ℕ) (l1 l2 : List ℤ)
+    → OpensPacked bytes held side1 side2 r h l1 l2 → r .answer ≡ 0
+    → (t : State) (calls : List (Call contracts)) → Made (record { book = r .book; held = h; side1 = l1; side2 = l2 }) calls t
+    → FollowsHistory t (setupIn bytes) (length held) calls
+packed-position-follows-history bytes held side1 side2 r h l1 l2 opening accepted t calls made =
+    begun-follows (packed-begins bytes held side1 side2 r h l1 l2 opening accepted) t calls made

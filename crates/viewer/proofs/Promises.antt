@@ -19,7 +19,7 @@ use Rattle.calls.specs.Answers.{afterCall}
 use Rattle.position.specs.Totals.{totalled, figured}
 use Rattle.position.specs.declared.Totalled.{Totalled}
 use Rattle.position.specs.declared.Figured.{Figured}
-use Rattle.position.proofs.UniqueTotals.{DayTotalled}
+use Rattle.position.proofs.Promises.{DayTotalled}
 use Rattle.shown.specs.Figures.{caseOf, firstOf, secondOf}
 use Rattle.bars.specs.Marks.{marked, dayMarkRules, dayMarked}
 use Rattle.bars.specs.declared.Marked.{Marked}

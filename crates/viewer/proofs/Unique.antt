@@ -14,7 +14,7 @@ use Rattle.setup_writing.specs.declared.SetupWritten.{SetupWritten}
 use Rattle.book.specs.declared.Book.{Book}
 use Rattle.position.specs.declared.Totalled.{Totalled}
 use Rattle.position.specs.declared.Figured.{Figured}
-use Rattle.position.proofs.UniqueTotals.{DayTotalled}
+use Rattle.position.proofs.Promises.{DayTotalled}
 use Rattle.bars.specs.declared.RowPlace.{RowPlace}
 use Rattle.bars.proofs.PlaceLaws.{Placed}
 use Rattle.viewer.specs.Asked.{named}
