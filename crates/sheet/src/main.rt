@@ -5,6 +5,7 @@ use sheets::beginning;
 use sheets::input;
 use sheets::totals;
 use sheets::turns;
+ghost use mathlib.Core.Bool.{true};
 ghost use mathlib.Core.Path.{_≡_};
 ghost use Prim.Native.Nat.{_≤_};
 ghost use lib.ListN.{length};
@@ -18,6 +19,14 @@ struct Progress {
     going: bool,
     seen: u64,
     kept: usize,
+    book: Book,
+}
+
+// Where it stands after the last turn: whether it would go on, how many turns it has taken, how many messages it has told, and the book.
+struct Finished {
+    going: bool,
+    turns: u64,
+    seen: u64,
     book: Book,
 }
 
@@ -87,7 +96,8 @@ fn take_turn(
     }
 }
 
-// The messages, turn by turn. A proved loop has to end, and nothing says that the input does: so it counts down from a number that no run uses up.
+// The messages, turn by turn, until a turn does not go on. A proved loop has to end, and nothing says that the input does: so it may end too after as
+// many turns as 64 bits count, which no run uses up.
 fn print_messages(
     start: Progress,
     bytes: &mut [u8],
@@ -95,17 +105,24 @@ fn print_messages(
     side1: &mut [i32],
     side2: &mut [i32],
     out: &mut [u8],
-) -> Progress
+) -> Finished
     requires { ⌜ start .kept ≤ length (now bytes) ⌝ }
+    ensures { λ r. ⌜ (r .going ≡ true → r .turns ≡ 18446744073709551615) ⌝ }
 {
     let mut answers = input_buffer();
     let mut progress = start;
-    let mut turns_left = u64::MAX;
-    while (turns_left > 0) & progress.going {
+    let mut turns: u64 = 0;
+    while (turns < u64::MAX) & progress.going {
         progress = take_turn(progress, bytes, held, side1, side2, &mut answers, out);
-        turns_left -= 1;
+        turns += 1;
     }
-    progress
+    let after = progress.book;
+    Finished {
+        going: progress.going,
+        turns: turns,
+        seen: progress.seen,
+        book: after,
+    }
 }
 
 // The totals, rising by account, day and period.

@@ -1,29 +1,31 @@
--- What is kept lies within the buffer, and no length changes. The measure is the number of turns that are left.
+-- What is kept lies within the buffer, and no length changes. The measure is the number of turns that are left; the loop ends where a turn does not
+-- go on, or none is left.
 use borrow.Author.Needs.{needs}
+use mathlib.Core.Bool.{true≢false}
 use mathlib.Core.Path.{_≡_, refl, sym, _∙_}
-use Prim.Native.Nat.{_≤_, _<_}
+use Prim.Native.Nat.{_-_, _≤_, _<_}
 use native.Mathlib.Omega.{arith}
-use borrow.Author.Tests.{ltb-true}
+use borrow.Author.Tests.{ltb-true, lt-ltb}
 use lib.Dec.{ltb}
 use lib.ListN.{length}
-use Rattle.laws.proofs.Cases.{and-left}
+use Rattle.laws.proofs.Cases.{by-lt, and-left}
 use Rattle.sheet.proofs.print_messages.Statement.{statement}
 use Rattle.sheet.proofs.print_messages.Tie as tie
 
 abbrev Inv-loop : tie.InvT-loop
-Inv-loop bytes₀ held₀ side1₀ side2₀ out₀ answers₀ progress₀ turns-left₀ bytes held side1 side2 out answers progress turns-left =
+Inv-loop bytes₀ held₀ side1₀ side2₀ out₀ answers₀ progress₀ turns₀ bytes held side1 side2 out answers progress turns =
     (progress .kept ≤ length bytes) × (length bytes ≡ length bytes₀) × (length held ≡ length held₀) × (length side1 ≡ length side1₀) × (length side2 ≡ length side2₀) × (length out ≡ length out₀)
-    × (2048 ≡ length answers)
+    × (2048 ≡ length answers) × (turns ≤ 18446744073709551615)
 
 abbrev μ-loop : tie.MeasureT-loop
-μ-loop bytes₀ held₀ side1₀ side2₀ out₀ answers₀ progress₀ turns-left₀ bytes held side1 side2 out answers progress turns-left =
-    turns-left
+μ-loop bytes₀ held₀ side1₀ side2₀ out₀ answers₀ progress₀ turns₀ bytes held side1 side2 out answers progress turns =
+    18446744073709551615 - turns
 
 input-buffer-requires : tie.Need-input-buffer-requires Inv-loop μ-loop
 input-buffer-requires c κs = search needs
 
 loop-holds : tie.Need-loop-holds Inv-loop μ-loop
-loop-holds c = (c .before .before .before .before .pre, refl, refl, refl, refl, refl, c .input-buffer .ensures)
+loop-holds c = (c .before .before .before .before .pre, refl, refl, refl, refl, refl, c .input-buffer .ensures, omega arith)
 
 slice-aggregate-take-turn : tie.Need-slice-aggregate-take-turn Inv-loop μ-loop
 slice-aggregate-take-turn c = search needs
@@ -32,13 +34,13 @@ take-turn-requires : tie.Need-take-turn-requires Inv-loop μ-loop
 take-turn-requires c κs = search needs
 
 -- in a turn the first test holds
-some-left : (c : tie.After-slice-known6 Inv-loop μ-loop) → 0 < c .before .before .before .before .before .before .before .before .before .before .before .before .before .before .before .before .before .before .loop .turns-left
+some-left : (c : tie.After-slice-known6 Inv-loop μ-loop) → c .before .before .before .before .before .before .before .before .before .before .before .before .before .before .before .before .before .before .loop .turns < 18446744073709551615
 some-left c =
     let l = c .before .before .before .before .before .before .before .before .before .before .before .before .before .before .before .before .before .before .loop in
-    ltb-true 0 (l .turns-left) (and-left (ltb 0 (l .turns-left)) (l .progress .going) (c .before .before .before .before .before .before .before .before .before .before .before .before .before .before .before .before .if1 .taken))
+    ltb-true (l .turns) 18446744073709551615 (and-left (ltb (l .turns) 18446744073709551615) (l .progress .going) (c .before .before .before .before .before .before .before .before .before .before .before .before .before .before .before .before .if1 .taken))
 
-sub-turns-left : tie.Need-sub-turns-left Inv-loop μ-loop
-sub-turns-left c = omega (arith, some-left c)
+add-turns : tie.Need-add-turns Inv-loop μ-loop
+add-turns c = record { fits = omega (arith, some-left c) }
 
 loop-less : tie.Need-loop-less Inv-loop μ-loop
 loop-less c = omega (arith, some-left c)
@@ -47,25 +49,29 @@ loop-again : tie.Need-loop-again Inv-loop μ-loop
 loop-again c =
     let t = c .before .before .before .before .before .before .before .before .before .take-turn in
     let i = c .before .before .before .before .before .before .before .before .before .before .before .before .before .before .before .before .before .before .loop .inv in
-    (t .ensures, t .kept .1 .0 ∙ i .1, t .kept .1 .1 .0 ∙ i .2, t .kept .1 .1 .1 .0 ∙ i .3, t .kept .1 .1 .1 .1 .0 ∙ i .4, t .kept .1 .1 .1 .1 .1 .1 .0 ∙ i .5, i .6 ∙ sym (t .kept .1 .1 .1 .1 .1 .0))
+    (t .ensures, t .kept .1 .0 ∙ i .1, t .kept .1 .1 .0 ∙ i .2, t .kept .1 .1 .1 .0 ∙ i .3, t .kept .1 .1 .1 .1 .0 ∙ i .4, t .kept .1 .1 .1 .1 .1 .1 .0 ∙ i .5, i .6 ∙ sym (t .kept .1 .1 .1 .1 .1 .0), omega (arith, some-left c))
 
 same-length : tie.Need-same-length Inv-loop μ-loop
-same-length c = c .before .before .loop .inv .1
+same-length c = c .before .before .before .loop .inv .1
 
 same-length-2 : tie.Need-same-length-2 Inv-loop μ-loop
-same-length-2 c = c .before .before .loop .inv .2
+same-length-2 c = c .before .before .before .loop .inv .2
 
 same-length-3 : tie.Need-same-length-3 Inv-loop μ-loop
-same-length-3 c = c .before .before .loop .inv .3
+same-length-3 c = c .before .before .before .loop .inv .3
 
 same-length-4 : tie.Need-same-length-4 Inv-loop μ-loop
-same-length-4 c = c .before .before .loop .inv .4
+same-length-4 c = c .before .before .before .loop .inv .4
 
 same-length-5 : tie.Need-same-length-5 Inv-loop μ-loop
-same-length-5 c = c .before .before .loop .inv .5
+same-length-5 c = c .before .before .before .loop .inv .5
 
 returns : tie.Need-returns Inv-loop μ-loop
-returns c = search needs
+returns c g =
+    let l = c .before .before .before .loop in
+    by-lt (l .turns) 18446744073709551615
+    (λ h. absurd (true≢false (rw (lt-ltb (l .turns) 18446744073709551615 h, g) at (c .before .if1 .left))))
+    (λ h. omega (arith, h, l .inv .7))
 
 pub print-messages-spec : {M : Type 1} → statement M
 print-messages-spec =
@@ -77,7 +83,7 @@ print-messages-spec =
     loop-holds
     slice-aggregate-take-turn
     take-turn-requires
-    sub-turns-left
+    add-turns
     loop-less
     loop-again
     same-length
