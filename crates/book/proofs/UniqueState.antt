@@ -1,44 +1,54 @@
--- No two different outcomes satisfy one promise: the result, and each table left.
-use mathlib.Core.Bool.{Bool}
+-- No two different outcomes keep one promise of `book`: the result, and of `open` each table left.
 use mathlib.Core.List.{List}
 use mathlib.Core.Path.{_≡_, ap}
 use Prim.Native.Nat.{ℕ}
+use contract.Lifetimes.{Lfts}
+use denote.Ref.{RefT, now}
 use lib.IntN.{ℤ}
-use Rattle.words.specs.Rules.{answer}
 use Rattle.laws.proofs.Cases.{one-outcome}
-use Rattle.meaning.specs.Authorisations.{rowAt}
-use Rattle.meaning.specs.Books.{openingRules}
-use Rattle.meaning.specs.Soundness.{sound}
-use Rattle.setups.specs.declared.Authorisation.{Authorisation}
+use Rattle.laws.proofs.Promises.{OneOutcome, OneResult}
 use Rattle.setups.specs.declared.Setup.{Setup}
-use Rattle.setups.specs.Structs.{rowOf, rowFor, setupOf}
-use Rattle.clock.specs.declared.Clock.{Clock}
+use Rattle.setups.specs.Structs.{rowFor}
 use Rattle.book.specs.Answers.{opened, heldOpened, sideOpened}
-use Rattle.book.specs.Structs.{clockIn, rowsIn, originPlace, originRow, bookOf}
-use Rattle.book.specs.declared.Book.{Book}
 use Rattle.book.specs.declared.Opened.{Opened}
 use Rattle.book.proofs.OpeningLaws.{openingAnswer}
+use Rattle.book.proofs.state.clock_of.Reads as clock-of
+use Rattle.book.proofs.state.row_of.Reads as row-of
+use Rattle.book.proofs.state.origin_place.Reads as origin-place
+use Rattle.book.proofs.state.origin_row.Reads as origin-row
+use Rattle.book.proofs.state.is_sound.Reads as is-sound
+use Rattle.book.proofs.opening.opening_refusal.Reads as opening-refusal
+use Rattle.book.proofs.opening.open.Reads as opening
 
-pub unique-clock-of : (b : Book) (r r′ : Clock) → r ≡ clockIn b → r′ ≡ clockIn b → r ≡ r′
-unique-clock-of b r r′ p q = one-outcome p q
+pub unique-clock-of : OneResult clock-of.Post
+unique-clock-of κs a r r′ s s′ = one-outcome
 
 -- a row is all that its struct has
-pub unique-row-of : (b : Book) (k : ℕ) (r r′ : Authorisation) → rowOf r ≡ rowAt (rowsIn (b .setup)) k → rowOf r′ ≡ rowAt (rowsIn (b .setup)) k → r ≡ r′
-unique-row-of b k r r′ p q = ap rowFor (one-outcome p q)
+pub unique-row-of : OneResult row-of.Post
+unique-row-of κs a r r′ s s′ p q = ap rowFor (one-outcome p q)
 
-pub unique-origin-place : (entry r r′ : ℕ) → r ≡ originPlace entry → r′ ≡ originPlace entry → r ≡ r′
-unique-origin-place entry r r′ p q = one-outcome p q
+pub unique-origin-place : OneResult origin-place.Post
+unique-origin-place κs a r r′ s s′ = one-outcome
 
-pub unique-origin-row : (authorisations entry : ℕ) (row r r′ : Authorisation) → r ≡ originRow authorisations entry row → r′ ≡ originRow authorisations entry row → r ≡ r′
-unique-origin-row authorisations entry row r r′ p q = one-outcome p q
+pub unique-origin-row : OneResult origin-row.Post
+unique-origin-row κs a r r′ s s′ = one-outcome
 
-pub unique-is-sound : (b : Book) (held : List ℕ) (side1 side2 : List ℤ) (r r′ : Bool)
-    → r ≡ sound (bookOf b held side1 side2) → r′ ≡ sound (bookOf b held side1 side2) → r ≡ r′
-unique-is-sound b held side1 side2 r r′ p q = one-outcome p q
+pub unique-is-sound : OneResult is-sound.Post
+unique-is-sound κs a r r′ s s′ = one-outcome
 
-pub unique-opening-refusal : (s : Setup) (slots lent1 lent2 r r′ : ℕ)
-    → r ≡ answer (openingRules (setupOf s) slots lent1 lent2) → r′ ≡ answer (openingRules (setupOf s) slots lent1 lent2) → r ≡ r′
-unique-opening-refusal s slots lent1 lent2 r r′ p q = one-outcome p q
+pub unique-opening-refusal : OneResult opening-refusal.Post
+unique-opening-refusal κs a r r′ s s′ = one-outcome
+
+pub unique-open : OneResult opening.Post
+    × OneOutcome opening.Post (λ κs r s. now (s .1 .0))
+    × OneOutcome opening.Post (λ κs r s. now (s .1 .1 .0))
+    × OneOutcome opening.Post (λ κs r s. now (s .1 .1 .1 .0))
+unique-open = (
+  λ κs a r r′ s s′ p q. one-outcome (p .0) (q .0),
+  λ κs a r r′ s s′ p q. one-outcome (p .1) (q .1),
+  λ κs a r r′ s s′ p q. one-outcome (p .2) (q .2),
+  λ κs a r r′ s s′ p q. one-outcome (p .3) (q .3),
+)
 
 -- what `open` ensures of its result and of the three tables
 abbrev pub Opens : Setup → List ℕ → List ℤ → List ℤ → Opened → List ℕ → List ℤ → List ℤ → Type 0
@@ -46,7 +56,7 @@ Opens s held side1 side2 r h l1 l2 =
     let a = openingAnswer s held side1 side2 in
     (r ≡ opened s a) × (h ≡ heldOpened a held) × (l1 ≡ sideOpened a side1) × (l2 ≡ sideOpened a side2)
 
-pub unique-open : (s : Setup) (held : List ℕ) (side1 side2 : List ℤ) (r r′ : Opened) (h h′ : List ℕ) (l1 l1′ l2 l2′ : List ℤ)
-    → Opens s held side1 side2 r h l1 l2 → Opens s held side1 side2 r′ h′ l1′ l2′ → (r ≡ r′) × (h ≡ h′) × (l1 ≡ l1′) × (l2 ≡ l2′)
-unique-open s held side1 side2 r r′ h h′ l1 l1′ l2 l2′ p q =
-    (one-outcome (p .0) (q .0), one-outcome (p .1) (q .1), one-outcome (p .2) (q .2), one-outcome (p .3) (q .3))
+pub open-promises : (κs : Lfts 3) (s : Setup) (held held′ : RefT (List ℕ)) (side1 side1′ side2 side2′ : RefT (List ℤ)) (r : Opened)
+    → opening.Post κs (s, (held, (side1, (side2, tt)))) r (s, (held′, (side1′, (side2′, tt))))
+    → Opens s (now held) (now side1) (now side2) r (now held′) (now side1′) (now side2′)
+open-promises κs s held held′ side1 side1′ side2 side2′ r p = p

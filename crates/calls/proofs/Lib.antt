@@ -12,3 +12,4 @@ pub mod UniqueGate
 pub mod UniqueNullify
 pub mod UniqueNotify
 pub mod UniquePacked
+pub mod OwnPromises

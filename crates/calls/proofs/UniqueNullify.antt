@@ -1,23 +1,18 @@
--- No two different outcomes satisfy what a nullification promises: its answer, and both tables left.
-use mathlib.Core.List.{List}
-use mathlib.Core.Path.{_≡_}
-use Prim.Native.Nat.{ℕ}
-use lib.IntN.{ℤ}
-use Rattle.words.specs.Rules.{answer}
+-- No two different outcomes keep what a nullification promises: its answer, and both tables left.
+use denote.Ref.{now}
 use Rattle.laws.proofs.Cases.{one-outcome}
-use Rattle.meaning.specs.Calls.{nullificationRules}
-use Rattle.messages.specs.Structs.{nullificationOf}
-use Rattle.messages.specs.declared.Nullification.{Nullification}
-use Rattle.book.specs.Structs.{bookOf}
-use Rattle.book.specs.declared.Book.{Book}
-use Rattle.calls.proofs.Promises.{Nullifies}
+use Rattle.laws.proofs.Promises.{OneOutcome, OneResult}
+use Rattle.calls.proofs.nullifications.nullification_refusal.Reads as nullification-refusal
+use Rattle.calls.proofs.nullifications.nullify.Reads as nullify
 
-pub unique-nullification-refusal : (b : Book) (x : Nullification) (held : List ℕ) (side1 side2 : List ℤ) (r r′ : ℕ)
-    → r ≡ answer (nullificationRules (bookOf b held side1 side2) (nullificationOf x))
-    → r′ ≡ answer (nullificationRules (bookOf b held side1 side2) (nullificationOf x))
-    → r ≡ r′
-unique-nullification-refusal b x held side1 side2 r r′ p q = one-outcome p q
+pub unique-nullification-refusal : OneResult nullification-refusal.Post
+unique-nullification-refusal κs a r r′ s s′ = one-outcome
 
-pub unique-nullify : (b : Book) (x : Nullification) (held : List ℕ) (side1 side2 : List ℤ) (r r′ : ℕ) (l1 l1′ l2 l2′ : List ℤ)
-    → Nullifies b held side1 side2 x r l1 l2 → Nullifies b held side1 side2 x r′ l1′ l2′ → (r ≡ r′) × (l1 ≡ l1′) × (l2 ≡ l2′)
-unique-nullify b x held side1 side2 r r′ l1 l1′ l2 l2′ p q = (one-outcome (p .0) (q .0), one-outcome (p .1) (q .1), one-outcome (p .2) (q .2))
+pub unique-nullify : OneResult nullify.Post
+    × OneOutcome nullify.Post (λ κs r s. now (s .1 .1 .1 .0))
+    × OneOutcome nullify.Post (λ κs r s. now (s .1 .1 .1 .1 .0))
+unique-nullify = (
+  λ κs a r r′ s s′ p q. one-outcome (p .0) (q .0),
+  λ κs a r r′ s s′ p q. one-outcome (p .1) (q .1),
+  λ κs a r r′ s s′ p q. one-outcome (p .2) (q .2),
+)

@@ -1,22 +1,23 @@
--- Each size has one value: any two that meet its contract are equal.
-use mathlib.Core.Path.{_≡_}
-use Prim.Native.Nat.{ℕ, min}
-use Rattle.words.specs.Fields.{bytesFor, padding, total}
+-- No two different results keep one promise of the layouts.
 use Rattle.laws.proofs.Cases.{one-outcome}
-use Rattle.meaning.specs.PackedMessages.{layoutFor}
-use Rattle.messages.specs.Parts.{kindRefusal}
+use Rattle.laws.proofs.Promises.{OneResult}
+use Rattle.messages.proofs.layouts.kind_refusal.Reads as kind-refusal
+use Rattle.messages.proofs.layouts.at_most_fifty.Reads as at-most-fifty
+use Rattle.messages.proofs.layouts.bits_for.Reads as bits-for
+use Rattle.messages.proofs.layouts.bytes_for.Reads as bytes-for
+use Rattle.messages.proofs.layouts.padding_for.Reads as padding-for
 
-pub unique-kind-refusal : (kind r r′ : ℕ) → r ≡ kindRefusal kind → r′ ≡ kindRefusal kind → r ≡ r′
-unique-kind-refusal kind r r′ = one-outcome
+pub unique-kind-refusal : OneResult kind-refusal.Post
+unique-kind-refusal κs a r r′ s s′ = one-outcome
 
-pub unique-at-most-fifty : (count r r′ : ℕ) → r ≡ min count 50 → r′ ≡ min count 50 → r ≡ r′
-unique-at-most-fifty count r r′ = one-outcome
+pub unique-at-most-fifty : OneResult at-most-fifty.Post
+unique-at-most-fifty κs a r r′ s s′ = one-outcome
 
-pub unique-bits-for : (kind count r r′ : ℕ) → r ≡ total (layoutFor kind count) → r′ ≡ total (layoutFor kind count) → r ≡ r′
-unique-bits-for kind count r r′ = one-outcome
+pub unique-bits-for : OneResult bits-for.Post
+unique-bits-for κs a r r′ s s′ = one-outcome
 
-pub unique-bytes-for : (kind count r r′ : ℕ) → r ≡ bytesFor (layoutFor kind count) → r′ ≡ bytesFor (layoutFor kind count) → r ≡ r′
-unique-bytes-for kind count r r′ = one-outcome
+pub unique-bytes-for : OneResult bytes-for.Post
+unique-bytes-for κs a r r′ s s′ = one-outcome
 
-pub unique-padding-for : (kind count r r′ : ℕ) → r ≡ padding (layoutFor kind count) → r′ ≡ padding (layoutFor kind count) → r ≡ r′
-unique-padding-for kind count r r′ = one-outcome
+pub unique-padding-for : OneResult padding-for.Post
+unique-padding-for κs a r r′ s s′ = one-outcome

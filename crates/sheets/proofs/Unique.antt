@@ -2,20 +2,22 @@
 use mathlib.Core.Bool.{Bool}
 use mathlib.Core.List.{List}
 use mathlib.Core.Path.{_≡_}
-use Prim.Native.Nat.{ℕ, _*_, _≤_}
+use Prim.Native.Nat.{ℕ}
 use lib.IntN.{ℤ}
 use Rattle.laws.proofs.Cases.{one-outcome}
+use Rattle.laws.proofs.Promises.{OneResult}
 use Rattle.book.specs.declared.Book.{Book}
-use Rattle.printing.specs.Sheet.{lentFor}
 use Rattle.sheets.specs.Promises.{Begins, Turns, Keeps, PutsAccountDay}
 use Rattle.sheets.specs.declared.Begun.{Begun}
 use Rattle.sheets.specs.declared.Turned.{Turned}
+use Rattle.sheets.proofs.beginning.lent_for.Reads as lent-for
+use Rattle.sheets.proofs.totals.account_days.Reads as account-days
 
-pub unique-lent-for : (bytes : List ℕ) (r r′ : ℕ) → (r ≡ lentFor bytes) × (r ≤ 12000) → (r′ ≡ lentFor bytes) × (r′ ≤ 12000) → r ≡ r′
-unique-lent-for bytes r r′ p q = one-outcome (p .0) (q .0)
+pub unique-lent-for : OneResult lent-for.Post
+unique-lent-for κs a r r′ s s′ p q = one-outcome (p .0) (q .0)
 
-pub unique-account-days : (b : Book) (r r′ : ℕ) → r ≡ b .setup .accounts * b .setup .days → r′ ≡ b .setup .accounts * b .setup .days → r ≡ r′
-unique-account-days b r r′ p q = one-outcome p q
+pub unique-account-days : OneResult account-days.Post
+unique-account-days κs a r r′ s s′ = one-outcome
 
 pub unique-keep : (used have : ℕ) (input left left′ : List ℕ) (r r′ : ℕ) → Keeps used have input left r → Keeps used have input left′ r′ → (left ≡ left′) × (r ≡ r′)
 unique-keep used have input left left′ r r′ p q = (one-outcome (p .0) (q .0), one-outcome (p .1) (q .1))
