@@ -12,6 +12,7 @@ pub mod OurFigures
 pub mod OurSetups
 pub mod OurPackedMessages
 pub mod OurPackedSetups
+pub mod OurPackedCalls
 pub mod OurTable
 pub mod Places
 pub mod Clock

@@ -14,7 +14,8 @@ use Rattle.meaning.proofs.OurFigures.{questions}
 use Rattle.meaning.proofs.OurSetups.{setups}
 use Rattle.meaning.proofs.OurPackedMessages.{packedMessages}
 use Rattle.meaning.proofs.OurPackedSetups.{packedSetups}
+use Rattle.meaning.proofs.OurPackedCalls.{packedCalls}
 
-pub ourTable : every (λ p. p) (orders ++ (refusals ++ (kinds ++ (effects ++ (questions ++ (setups ++ (packedMessages ++ packedSetups))))))) ≡ true
+pub ourTable : every (λ p. p) (orders ++ (refusals ++ (kinds ++ (effects ++ (questions ++ (setups ++ (packedMessages ++ (packedSetups ++ packedCalls)))))))) ≡ true
 unfolding Opened.opened div ofInt toBits
 ourTable = refl
