@@ -12,7 +12,7 @@ use lib.IntN.{ℤ, pos, negsuc, negℤ}
 use lib.ListN.{length, take, drop, length-take, length-drop}
 use Rattle.words.specs.Rules.{answer}
 use Rattle.laws.proofs.Cases.{on}
-use Rattle.laws.proofs.Rules.{Exactly, exactly}
+use Rattle.laws.proofs.Rules.{numberAt, Exactly, exactly}
 use Rattle.meaning.specs.Ledgers.{contracts, one, two}
 use Rattle.meaning.specs.Books as Meaning
 use Rattle.meaning.specs.Rows.{row}
@@ -104,6 +104,12 @@ module _ (b : Book) (held : List ℕ) (side1 side2 : List ℤ) (i D period : ℕ
   pub day-marks-exactly : (account cases firsts seconds : ℕ) → Exactly (dayMarkRules tables i account D cases firsts seconds)
   unfolding dayMarkRules
   day-marks-exactly account cases firsts seconds = exactly (dayMarkRules tables i account D cases firsts seconds) refl
+
+  -- the five numbers themselves, in their order
+  pub day-marks-order : (account cases firsts seconds : ℕ) → let rules = dayMarkRules tables i account D cases firsts seconds in
+      (numberAt rules 0 ≡ 1) × (numberAt rules 1 ≡ 25) × (numberAt rules 2 ≡ 15) × (numberAt rules 3 ≡ 16) × (numberAt rules 4 ≡ 24)
+  unfolding dayMarkRules
+  day-marks-order account cases firsts seconds = (refl, refl, refl, refl, refl)
 
   -- a refusal's "other results are .. the blank mark"
   pub refused-blank : (account : ℕ) (r : Marked) → r ≡ marked tables i account D period → r .answer ≢ 0 → r .bar ≡ Blank

@@ -13,7 +13,7 @@ use borrow.Author.Tests.{eq-eqb, ne-eqb, lt-ltb, le-ltb}
 use Rattle.words.specs.Below.{sumBelowℤ}
 use Rattle.words.specs.Rules.{answer}
 use Rattle.laws.proofs.Lists.{getD-mapAt}
-use Rattle.laws.proofs.Rules.{Exactly, exactly}
+use Rattle.laws.proofs.Rules.{numberAt, Exactly, exactly}
 use Rattle.laws.proofs.Sums.{sum-ext}
 use Rattle.meaning.specs.Time.{dayOf}
 use Rattle.meaning.specs.Ledgers.{contracts}
@@ -54,6 +54,12 @@ module _ (b : Book) (held : List ℕ) (side1 side2 : List ℤ) where
   pub day-totals-exactly : (account D room : ℕ) → Exactly (dayTotalRules before account D room)
   unfolding dayTotalRules
   day-totals-exactly account D room = exactly (dayTotalRules before account D room) refl
+
+  -- the four numbers themselves, in their order
+  pub day-totals-order : (account D room : ℕ) → let rules = dayTotalRules before account D room in
+      (numberAt rules 0 ≡ 1) × (numberAt rules 1 ≡ 15) × (numberAt rules 2 ≡ 16) × (numberAt rules 3 ≡ 24)
+  unfolding dayTotalRules
+  day-totals-order account D room = (refl, refl, refl, refl)
 
   module _ (account D : ℕ) (lent : List ℤ) (done : answer (dayTotalRules before account D (length lent)) ≡ 0) where
     -- each place of the day holds what `total` answers of its period, and every other place what it held
