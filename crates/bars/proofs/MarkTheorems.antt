@@ -29,7 +29,7 @@ use Rattle.shown.specs.declared.Bar.the-variants.{Blank, OneSide, Agreed, Disag
 use Rattle.bars.specs.declared.Marked.{Marked}
 use Rattle.bars.proofs.RowLaws.{before, start, long, some-long, row-inside, rowAnswer, Shown, shown, row-refused}
 use Rattle.bars.proofs.MarkLaws.{mark-refused}
-use Rattle.shown.proofs.MwhLaws.{mwh-negated, some-not-zero, zero-not-negative, no-negative-zero}
+use Rattle.figures.proofs.MwhLaws.{mwh-negated, some-not-zero, zero-not-negative, no-negative-zero}
 
 -- ---- rows
 

@@ -1,19 +1,17 @@
 -- Document 01, "Matching, totals, marks": the mark of a period, and the marks of a whole day.
-use mathlib.Core.Bool.{Bool, false, not, _&&_, _||_}
+use mathlib.Core.Bool.{not, _&&_, _||_}
 use mathlib.Core.List.{List}
 use Prim.Native.Nat.{ℕ, suc, _+_}
-use lib.IntN.{ℤ, negℤ}
-use lib.Ieee.{Float, fin}
+use lib.IntN.{ℤ}
 use lib.ListN.{getD}
 use Rattle.words.specs.Tests.{if_then_else_, _<?_, _=?_}
 use Rattle.words.specs.Lists.{mapAt}
 use Rattle.words.specs.Rules.{Rule, _when_else_, done, answer}
 use Rattle.meaning.specs.Time.{periodsAt, dayOf, hasDay}
-use Rattle.meaning.specs.Authorisations.{rowAt, inPair}
+use Rattle.meaning.specs.Authorisations.{Authorisation, rowAt, inPair}
 use Rattle.meaning.specs.Ledgers.{contracts, theMark, originatorOf, isHeld}
 use Rattle.meaning.specs.Books.{Book, hasAccount}
 use Rattle.meaning.specs.Soundness.{sound}
-use Rattle.meaning.specs.Totals.{mwh}
 use Rattle.meaning.specs.Bars as Meaning
 use Rattle.shown.specs.Figures.{barFor, barSeen}
 use Rattle.shown.specs.declared.Bar.{Bar}
@@ -62,6 +60,6 @@ dayMarked value b i account D refusal buffer =
     then overFront (periodsAt (b .time .codes) (dayOf (b .time) D)) (λ (p : ℕ). value (barFor (Meaning.mark b i account D (suc p)))) buffer
     else buffer
 
--- what the two sides hold in the place p past `start`
-unfoldable pub barFrom : Bool → List ℤ → List ℤ → ℕ → ℕ → Bar
-barFrom first side1 side2 start p = barSeen first (getD side1 (start + p) theMark) (getD side2 (start + p) theMark)
+-- what the two sides hold in the place p past `start`, as an account of the pair sees it
+unfoldable pub barFrom : Authorisation → ℕ → List ℤ → List ℤ → ℕ → ℕ → Bar
+barFrom a account side1 side2 start p = barSeen a account (getD side1 (start + p) theMark) (getD side2 (start + p) theMark)

@@ -4,7 +4,7 @@ use book::numbers;
 use book::state;
 ghost use mathlib.Core.Bool.{_&&_};
 ghost use mathlib.Core.Path.{_≡_};
-ghost use Rattle.words.specs.Tests.{_<?_, _=?_};
+ghost use Rattle.words.specs.Tests.{_<?_};
 ghost use Rattle.words.specs.Rules.{answer};
 ghost use Rattle.meaning.specs.Time.{isPeriod};
 ghost use Rattle.meaning.specs.Authorisations.{rowAt, inPair};
@@ -18,15 +18,7 @@ fn may_ask(b: book::Book, originator: u8, account: u8) -> bool
 {
     let s = b.setup;
     let row = state::row_of(b, originator as u32);
-    (account < s.accounts) & ((account == row.account1) | (account == row.account2))
-}
-
-// The account is account 1 of the pair.
-pub(crate) fn is_first(b: book::Book, originator: u8, account: u8) -> bool
-    ensures { λ r. ⌜ r ≡ account =? rowAt (rowsIn (b .setup)) originator .account1 ⌝ }
-{
-    let row = state::row_of(b, originator as u32);
-    account == row.account1
+    (account < s.accounts) & figures::in_pair(row, account)
 }
 
 pub(crate) fn is_period(b: book::Book, day: u16, period: u8) -> bool

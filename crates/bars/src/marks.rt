@@ -10,6 +10,7 @@ ghost use Prim.Native.Nat.{ℕ, _+_, _≤_};
 ghost use lib.ListN.{length};
 ghost use Rattle.words.specs.Rules.{answer};
 ghost use Rattle.meaning.specs.Ledgers.{identifierOf};
+ghost use Rattle.setups.specs.Structs.{rowOf};
 ghost use Rattle.book.specs.Structs.{bookOf};
 ghost use Rattle.shown.specs.Figures.{caseOf, firstOf, secondOf};
 ghost use Rattle.bars.specs.Marks.{refusedMark, marked, dayMarkRules, overFront, dayMarked, barFrom};
@@ -51,36 +52,37 @@ pub fn mark(
     let place = rows::index_of(b, slot, day, period);
     let v = ledger::volume_at(side1, place);
     let w = ledger::volume_at(side2, place);
-    let bar = shown::bar_of(v, w, asking::is_first(b, originator, account));
+    let row = state::row_of(b, originator as u32);
     Marked {
         answer: 0,
-        bar: bar,
+        bar: shown::bar_of(row, account, v, w),
     }
 }
 
 // ---- the marks of a day
 
-// The marks of `count` places of both sides from `start` on, into the front of the three buffers.
+// The marks of `count` places of both sides from `start` on, as an account of the pair sees them, into the front of the three buffers.
 fn write_marks(
     side1: &[i32],
     side2: &[i32],
     start: usize,
     count: usize,
-    first: bool,
+    row: setups::Authorisation,
+    account: u8,
     cases: &mut [u8],
     firsts: &mut [f64],
     seconds: &mut [f64],
 )
     requires { ⌜ (start + count ≤ 102400) × (count ≤ length (now cases)) × (count ≤ length (now firsts)) × (count ≤ length (now seconds)) ⌝ }
     ensures { λ _. do
-      let bar = barFrom first (now (side1 .entry)) (now (side2 .entry)) start
+      let bar = barFrom (rowOf row) account (now (side1 .entry)) (now (side2 .entry)) start
       ⌜ (now (cases .exit) ≡ overFront count (λ (p : ℕ). caseOf (bar p)) (now (cases .entry))) × (now (firsts .exit) ≡ overFront count (λ (p : ℕ). firstOf (bar p)) (now (firsts .entry))) × (now (seconds .exit) ≡ overFront count (λ (p : ℕ). secondOf (bar p)) (now (seconds .entry))) ⌝ }
 {
     let mut p: usize = 0;
     while p < count {
         let v = ledger::volume_at(side1, start + p);
         let w = ledger::volume_at(side2, start + p);
-        let bar = shown::bar_of(v, w, first);
+        let bar = shown::bar_of(row, account, v, w);
         cases[p] = shown::case_of(bar);
         firsts[p] = shown::first_of(bar);
         seconds[p] = shown::second_of(bar);
@@ -121,7 +123,17 @@ pub fn day_marks(
     }
     let slot = rows::slot_of(held, originator, reference);
     let start = rows::index_of(b, slot, day, 1);
-    let first = asking::is_first(b, originator, account);
-    write_marks(side1, side2, start, periods, first, cases, firsts, seconds);
+    let row = state::row_of(b, originator as u32);
+    write_marks(
+        side1,
+        side2,
+        start,
+        periods,
+        row,
+        account,
+        cases,
+        firsts,
+        seconds,
+    );
     0
 }

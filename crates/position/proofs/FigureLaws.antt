@@ -1,35 +1,36 @@
--- The parts above and below zero, their bounds, and the conversion to MWh.
+-- The parts above and below zero, their bounds, and the figures that are given.
 use mathlib.Core.Bool.{Bool, true, false, true≢false}
 use mathlib.Core.List.{List}
 use mathlib.Core.Logic.{_≢_}
 use mathlib.Core.Path.{_≡_, refl, sym, ap, _∙_}
-use Prim.Native.Nat.{ℕ, suc, _+_, _^_, _≤_, _<_}
+use Prim.Native.Nat.{ℕ, suc, _+_, _≤_}
 use native.Mathlib.Nat.{le-refl}
 use native.Mathlib.Omega.{arith}
-use lib.Count.{trailingZeros}
-use lib.Dec.{T, eqb, le→leb, lt→ltb}
-use lib.Ieee.{fin, binary64, ofBits, ofFields, odd, inFloat}
+use lib.Dec.{eqb}
 use lib.IntN.{ℤ, pos, negsuc, negℤ, natAbs, _-ℤ_}
-use lib.ListN.{getD}
+use lib.ListN.{length, getD}
 use lib.Signed.{ltZ}
 use mir.Syntax.{w64}
 use mir.Val.{SFits}
 use borrow.Author.Tests.{ltb-true, ne-eqb}
 use Rattle.laws.proofs.Machine.{abs-fits}
 use Rattle.laws.proofs.Whole.{abs-neg, abs-add, zero-less}
-use Rattle.laws.proofs.Sums.{sum-ext, sum-zero}
+use Rattle.laws.proofs.Sums.{sum-ext, sum-zero, sum-bound}
 use Rattle.words.specs.Below.{sumBelowℤ}
 use Rattle.words.specs.Rules.{answer}
-use Rattle.meaning.specs.Time.{dayOf}
+use Rattle.meaning.specs.Time.{periodsAt, dayOf}
 use Rattle.meaning.specs.Books as Meaning
 use Rattle.meaning.specs.Authorisations.{Authorisation, inPair}
 use Rattle.meaning.specs.Ledgers.{contracts, index, originIn}
 use Rattle.meaning.specs.Totals.{counted, aboveZero, belowZero, daySum, sold, bought, figuresRules, figures}
+use Rattle.meaning.proofs.Clock.{periods-le}
+use Rattle.meaning.proofs.Counted.{counted-small}
+use Rattle.meaning.proofs.Sound.{parts}
 use Rattle.book.specs.declared.Book.{Book}
 use Rattle.book.specs.Structs.{rowsIn, bookOf}
 use Rattle.position.proofs.TotalLaws.{Asked}
-use Rattle.position.proofs.DayLaws.{counted-from, foreign-none}
-use Rattle.position.specs.Counting.{countedAt, partOf, slotPart, figuresFor}
+use Rattle.position.proofs.DayLaws.{slots-few, counted-from, foreign-none}
+use Rattle.position.specs.Counting.{DayAsked, countedAt, partOf, slotPart, figuresFor}
 use Rattle.position.specs.Totals.{figured}
 
 -- ---- what is below zero, negated; and what is above
@@ -80,6 +81,22 @@ foreign-parts origin account side1 side2 first periods below e =
     sym (sum-zero periods (λ (p : ℕ). partOf below (countedAt origin account side1 side2 (first + p)))
     (λ p h. ap (partOf below) (foreign-none origin account side1 side2 (first + p) e) ∙ part-none below))
 
+-- ---- a day's sums
+
+-- in a sound book they are far below 2 ^ 53
+pub day-sum-small : (b : Book) (held : List ℕ) (side1 side2 : List ℤ) (account d : ℕ) → DayAsked (bookOf b held side1 side2) d → (below : Bool)
+    → natAbs (daySum (partOf below) (bookOf b held side1 side2) account d) ≤ 1279999987200
+unfolding daySum
+day-sum-small b held side1 side2 account d a below =
+    let whole = bookOf b held side1 side2 in
+    let periods = periodsAt (whole .time .codes) d in
+    let part : ℕ → ℕ → ℤ = λ slot p. partOf below (counted whole account d (suc p) slot) in
+    let small : (slot p : ℕ) → natAbs (part slot p) ≤ 99999999 = λ slot p.
+    omega (arith, part-small below (counted whole account d (suc p) slot), counted-small whole d (suc p) slot (parts whole (a .is-sound)) account) in
+    let of-slot : (slot : ℕ) → natAbs (sumBelowℤ periods (part slot)) ≤ 4999999950 = λ slot.
+    omega (arith, periods-le (whole .time .codes) d, sum-bound periods 99999999 (part slot) (λ p h. small slot p)) in
+    omega (arith, slots-few b held side1 side2 d a, sum-bound (length held) 4999999950 (λ slot. sumBelowℤ periods (part slot)) (λ slot h. of-slot slot))
+
 -- ---- differences
 
 pub abs-difference : (a b : ℤ) → natAbs (a -ℤ b) ≤ natAbs a + natAbs b
@@ -90,19 +107,6 @@ negated-fits z h = rw (zero-less z) (abs-fits {w = w64} {z = negℤ z} (omega (a
 
 pub net-fits : (a b : ℤ) → natAbs a ≤ 27487790694400 → natAbs b ≤ 27487790694400 → SFits w64 (a -ℤ b)
 net-fits a b h k = abs-fits {w = w64} {z = a -ℤ b} (omega (arith, abs-difference a b))
-
--- ---- MWh
-
--- the code's 1000.0 is 125 * 2 ^ 3
-pub thousand : ofBits binary64 0x408f400000000000 ≡ fin false 125 (pos 3)
-unfolding ofBits ofFields odd trailingZeros
-thousand = refl
-
--- a whole number below 2 ^ 53 is converted exactly
-pub exact : (z : ℤ) → natAbs z < 2 ^ 53 → T (inFloat binary64 z)
-unfolding inFloat
-exact (pos n) h = le→leb n (2 ^ 53) (omega arith)
-exact (negsuc n) h = lt→ltb n (2 ^ 53) (omega arith)
 
 -- ---- what the question gives
 

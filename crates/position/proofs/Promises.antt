@@ -15,7 +15,7 @@ use Rattle.position.specs.declared.Totalled.{Totalled}
 use Rattle.position.specs.declared.Figured.{Figured}
 use Rattle.position.proofs.totals.total.Reads as total
 use Rattle.position.proofs.totals.day_totals.Reads as day-totals
-use Rattle.position.proofs.figures.figures.Reads as figures
+use Rattle.position.proofs.day_figures.figures.Reads as figures
 
 -- what `day_totals` ensures of its answer and of what it leaves, as a type
 abbrev pub DayTotalled : Book → List ℕ → List ℤ → List ℤ → ℕ → ℕ → List ℤ → ℕ → List ℤ → Type 0

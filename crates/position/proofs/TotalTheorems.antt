@@ -1,12 +1,13 @@
 -- What the answers of `position` are worth: totals balance over all accounts, a day of totals is refused exactly and is its periods' totals, and
--- the net figure is the exact difference, converted once.
+-- the net figure is the exact difference; each whole number is converted exactly.
 use mathlib.Core.Bool.{true, false}
 use mathlib.Core.List.{List}
 use mathlib.Core.Logic.{_≢_}
 use mathlib.Core.Path.{_≡_, refl, sym, ap, _∙_}
 use Prim.Native.Nat.{ℕ, suc, _≤_, _<_}
+use native.Mathlib.Omega.{arith}
 use lib.Dec.{eqb}
-use lib.Ieee.{fin}
+use lib.Ieee.{fin, binary64, ofInt, toSigned}
 use lib.IntN.{ℤ, pos, _-ℤ_}
 use lib.ListN.{length, getD}
 use borrow.Author.Tests.{eq-eqb, ne-eqb, lt-ltb, le-ltb}
@@ -23,10 +24,13 @@ use Rattle.meaning.proofs.Totals.{totals-zero-always, never-26}
 use Rattle.meaning.proofs.Figures.{net-is-difference, zero-positive}
 use Rattle.book.specs.declared.Book.{Book}
 use Rattle.book.specs.Structs.{bookOf}
+use Rattle.figures.proofs.MwhLaws.{converted-exactly}
+use Rattle.position.specs.Counting.{partOf}
 use Rattle.position.specs.Totals.{totalled, dayPeriods, dayTotalRules, periodTotal, dayTotals, figured}
 use Rattle.position.specs.declared.Totalled.{Totalled}
 use Rattle.position.specs.declared.Figured.{Figured}
-use Rattle.position.proofs.TotalLaws.{asked, sum-is-total}
+use Rattle.position.proofs.TotalLaws.{asked, day-asked, sum-is-total}
+use Rattle.position.proofs.FigureLaws.{abs-difference, day-sum-small}
 
 module _ (b : Book) (held : List ℕ) (side1 side2 : List ℤ) where
   abbrev before : Meaning.Book contracts
@@ -77,6 +81,9 @@ module _ (b : Book) (held : List ℕ) (side1 side2 : List ℤ) where
 
   -- ---- the day's figures
 
+  abbrev Converts : ℤ → Type 0
+  Converts kwh = toSigned 63 (ofInt binary64 kwh) ≡ kwh
+
   module _ (account D : ℕ) (r : Figured) (promise : r ≡ figured before account D) where
     abbrev d : ℕ
     d = dayOf (before .time) D
@@ -98,6 +105,18 @@ module _ (b : Book) (held : List ℕ) (side1 side2 : List ℤ) where
         ∙ ap mwh
         (net-is-difference before account d
         ∙ sum-ext (dayPeriods before D) _ _ (λ p h. sum-is-total before account D (asked before account D (sym (sym (ap (λ (f : Figured). f .answer) promise) ∙ e))) p h))
+
+    -- "converted exactly": the three whole sums, made floats, are still those numbers
+    pub sums-converted-exactly : r .answer ≡ 0
+        → Converts (sold before account d) × Converts (bought before account d) × Converts (sold before account d -ℤ bought before account d)
+    unfolding figured sold bought partOf
+    sums-converted-exactly e =
+        let a = day-asked before account D (asked before account D (sym (sym (ap (λ (f : Figured). f .answer) promise) ∙ e))) in
+        let most = day-sum-small b held side1 side2 account d a in (
+          converted-exactly (sold before account d) (omega (arith, most false)),
+          converted-exactly (bought before account d) (omega (arith, most true)),
+          converted-exactly (sold before account d -ℤ bought before account d) (omega (arith, most false, most true, abs-difference (sold before account d) (bought before account d))),
+        )
 
     -- with a refusal each figure is positive zero
     pub refused-figures : r .answer ≢ 0

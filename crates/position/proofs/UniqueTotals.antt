@@ -4,7 +4,7 @@ use Rattle.laws.proofs.Cases.{one-outcome}
 use Rattle.laws.proofs.Promises.{OneOutcome, OneResult}
 use Rattle.position.proofs.totals.total.Reads as total
 use Rattle.position.proofs.totals.day_totals.Reads as day-totals
-use Rattle.position.proofs.figures.figures.Reads as figures
+use Rattle.position.proofs.day_figures.figures.Reads as figures
 
 pub unique-total : OneResult total.Post
 unique-total κs a r r′ s s′ = one-outcome

@@ -4,9 +4,8 @@ ghost use Prim.Native.Nat.{suc, _≤_, _<_};
 ghost use lib.IntN.{natAbs};
 ghost use lib.ListN.{length};
 ghost use Rattle.words.specs.Rules.{answer};
-ghost use Rattle.meaning.specs.Authorisations.{inPair};
 ghost use Rattle.meaning.specs.Ledgers.{index};
-ghost use Rattle.meaning.specs.Totals.{matches, seenBy, figuresRules};
+ghost use Rattle.meaning.specs.Totals.{figuresRules};
 ghost use Rattle.setups.specs.Structs.{rowOf};
 ghost use Rattle.book.specs.Structs.{bookOf};
 ghost use Rattle.position.specs.Counting.{countedAt};
@@ -16,33 +15,6 @@ pub(crate) fn place_of(slot: u8, days: u8, d: u8, p: u8) -> usize
     ensures { λ r. ⌜ r ≡ index days slot d (suc p) ⌝ }
 {
     (slot as usize * days as usize + d as usize) * ledger::PLACES_A_DAY + p as usize
-}
-
-// "A period matches when both sides stand and are equal."
-fn is_matched(v: i32, w: i32) -> bool
-    ensures { λ r. ⌜ r ≡ matches v w ⌝ }
-{
-    ledger::states(v) & ledger::states(w) & (v == w)
-}
-
-// kWh as they stand for account 1, negated as a whole number for account 2, nothing for any other.
-fn seen_by(row: setups::Authorisation, account: u8, v: i32) -> i64
-    ensures { λ r. ⌜ r ≡ seenBy (rowOf row) account v ⌝ }
-{
-    if account == row.account1 {
-        return v as i64;
-    }
-    if account == row.account2 {
-        return -(v as i64);
-    }
-    0
-}
-
-// The account is one of the pair's two; no other sees anything of it.
-pub(crate) fn in_pair(row: setups::Authorisation, account: u8) -> bool
-    ensures { λ r. ⌜ r ≡ inPair (rowOf row) account ⌝ }
-{
-    (account == row.account1) | (account == row.account2)
 }
 
 // What a place counts for an account, where its slot's identifier has this originating authorisation.
@@ -58,10 +30,10 @@ pub(crate) fn counted_at(
 {
     let v = side1[place];
     let w = side2[place];
-    if !is_matched(v, w) {
+    if !figures::is_matched(v, w) {
         return 0;
     }
-    seen_by(row, account, v)
+    figures::seen_by(row, account, v)
 }
 
 // The number that refuses a question of an account's day: 1, 15 or 16; 0 where none does.

@@ -1,7 +1,7 @@
 // What an account's position is: totals and figures of matched volumes, asked of a book by value beside its lent tables.
 mod counting; // counting.rt: what a slot counts, and when a day's question is refused
 pub mod totals; // totals.rt: an account's total in a period, and in each period of a day
-pub mod figures; // figures.rt: sold, bought and net MWh of a day
+pub mod day_figures; // day_figures.rt: sold, bought and net MWh of a day
 
 // With a refusal the total is 0.
 #[repr(C)]

@@ -115,7 +115,7 @@ fn add_slot(
     requires { ⌜ PartInside first periods (now side1) (now side2) × (periods ≤ length (now out)) × ((p : ℕ) → p < periods → natAbs (getD (now out) p (pos 0)) ≤ 25600000000) ⌝ }
     ensures { λ r. ⌜ now (out .exit) ≡ onFront periods (λ (p : ℕ) (old : ℤ). old +ℤ countedAt (rowOf origin) account (now (side1 .entry)) (now (side2 .entry)) (first + p)) (now (out .entry)) ⌝ }
 {
-    if !counting::in_pair(origin, account) {
+    if !figures::in_pair(origin, account) {
         return;
     }
     for p in 0..periods {

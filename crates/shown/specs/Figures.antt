@@ -1,10 +1,10 @@
 -- Document 01, "Matching, totals, marks": the bar of what two sides hold as an enum, with this paper's number and values for each case.
-use mathlib.Core.Bool.{Bool, false}
+use mathlib.Core.Bool.{false}
 use Prim.Native.Nat.{ℕ}
-use lib.IntN.{ℤ, pos, negℤ}
+use lib.IntN.{ℤ, pos}
 use lib.Ieee.{Float, fin}
-use Rattle.words.specs.Tests.{if_then_else_}
-use Rattle.meaning.specs.Totals.{mwh}
+use Rattle.meaning.specs.Authorisations.{Authorisation}
+use Rattle.meaning.specs.Totals.{seenBy, mwh}
 use Rattle.meaning.specs.Bars as Meaning
 use Rattle.shown.specs.declared.Bar.{Bar}
 use Rattle.shown.specs.declared.Bar.the-variants.{Blank, OneSide, Agreed, Disagreed}
@@ -41,10 +41,7 @@ secondOf (OneSide x) = noFigure
 secondOf (Agreed x) = noFigure
 secondOf (Disagreed x y) = y
 
--- ---- what the two sides hold in a place, as account 1 of the pair sees it, or account 2
+-- ---- what the two sides hold in a place, for the pair of an authorisation, as an account sees it
 
-unfoldable pub seenFrom : Bool → ℤ → ℤ
-seenFrom first v = if first then v else negℤ v
-
-unfoldable pub barSeen : Bool → ℤ → ℤ → Bar
-barSeen first v w = barFor (Meaning.mapBar mwh (Meaning.mapBar (seenFrom first) (Meaning.barOf v w)))
+unfoldable pub barSeen : Authorisation → ℕ → ℤ → ℤ → Bar
+barSeen a account v w = barFor (Meaning.mapBar mwh (Meaning.mapBar (seenBy a account) (Meaning.barOf v w)))

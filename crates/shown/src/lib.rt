@@ -1,10 +1,9 @@
 // The bar of one place: "Blank, OneSide, Agreed or Disagreed with its MWh (two figures for Disagreed, side 1 first)", and the number and the values of
 // each case.
 ghost use mathlib.Core.Path.{_≡_};
-ghost use Prim.Native.Nat.{_<_, _^_};
-ghost use lib.Signed.{mag};
-ghost use Rattle.meaning.specs.Totals as Totals;
-ghost use Rattle.shown.specs.Figures.{caseOf, firstOf, secondOf, seenFrom, barSeen};
+ghost use Rattle.meaning.specs.Totals.{seenBy, mwh};
+ghost use Rattle.setups.specs.Structs.{rowOf};
+ghost use Rattle.shown.specs.Figures.{caseOf, firstOf, secondOf, barSeen};
 
 // A figure in MWh, seen from the asking account; two for Disagreed, side 1 first.
 pub enum Bar {
@@ -14,53 +13,32 @@ pub enum Bar {
     Disagreed(f64, f64),
 }
 
-const KWH_IN_MWH: f64 = 1000.0;
-
 // ---- one place
 
-// "kWh as they stand for account 1, negated as a whole number for account 2"
-fn seen(v: i32, first: bool) -> i64
-    ensures { λ r. ⌜ (r ≡ seenFrom first v) × (mag r < 2 ^ 32) ⌝ }
+// "seen from the asking account .., then made a 64-bit float and divided by 1000 once"
+fn figure(row: setups::Authorisation, account: u8, v: i32) -> f64
+    ensures { λ r. ⌜ r ≡ mwh (seenBy (rowOf row) account v) ⌝ }
 {
-    let kwh = v as i64;
-    if first {
-        return kwh;
+    figures::mwh(figures::seen_by(row, account, v))
+}
+
+// The bar of what the two sides hold for the pair of this authorisation, seen from the account.
+pub fn bar_of(row: setups::Authorisation, account: u8, v: i32, w: i32) -> Bar
+    ensures { λ r. ⌜ r ≡ barSeen (rowOf row) account v w ⌝ }
+{
+    if figures::is_matched(v, w) {
+        return Bar::Agreed(figure(row, account, v));
     }
-    -kwh
-}
-
-// "made a 64-bit float and divided by 1000 once"
-fn mwh(kwh: i64) -> f64
-    requires { ⌜ mag kwh < 2 ^ 53 ⌝ }
-    ensures { λ r. ⌜ r ≡ Totals.mwh kwh ⌝ }
-{
-    kwh as f64 / KWH_IN_MWH
-}
-
-// The figure of one side.
-fn figure(v: i32, first: bool) -> f64
-    ensures { λ r. ⌜ r ≡ Totals.mwh (seenFrom first v) ⌝ }
-{
-    mwh(seen(v, first))
-}
-
-// The bar of what the two sides hold.
-pub fn bar_of(v: i32, w: i32, first: bool) -> Bar
-    ensures { λ r. ⌜ r ≡ barSeen first v w ⌝ }
-{
     let one = ledger::states(v);
     let two = ledger::states(w);
-    if one & two & (v == w) {
-        return Bar::Agreed(figure(v, first));
-    }
     if one & two {
-        return Bar::Disagreed(figure(v, first), figure(w, first));
+        return Bar::Disagreed(figure(row, account, v), figure(row, account, w));
     }
     if one {
-        return Bar::OneSide(figure(v, first));
+        return Bar::OneSide(figure(row, account, v));
     }
     if two {
-        return Bar::OneSide(figure(w, first));
+        return Bar::OneSide(figure(row, account, w));
     }
     Bar::Blank
 }

@@ -191,7 +191,7 @@ pub extern "C" fn ghendufika_figures(
 {
     let account = asked::at_most_255(account);
     let day = asked::at_most_65535(day);
-    position::figures::figures(b, held, side1, side2, account, day)
+    position::day_figures::figures(b, held, side1, side2, account, day)
 }
 
 #[no_mangle]

@@ -12,11 +12,13 @@ use lib.Dec.{ltb}
 use lib.ListN.{length}
 use Rattle.words.specs.Rules.{answer}
 use Rattle.meaning.specs.Time.{Time, hasDay}
+use Rattle.meaning.specs.Authorisations.{Authorisation}
 use Rattle.meaning.specs.Ledgers.{contracts, identifierOf}
 use Rattle.meaning.specs.Books as Books
 use Rattle.meaning.specs.Bars.{mark}
 use Rattle.book.specs.Structs.{timeIn}
 use Rattle.book.proofs.StateLaws.{clock-time}
+use Rattle.setups.specs.Structs.{rowOf}
 use Rattle.shown.specs.Figures.{barFor, caseOf, firstOf, secondOf, noFigure}
 use Rattle.bars.specs.Marks.{askingRules, overFront, dayMarked, barFrom}
 use Rattle.shown.specs.declared.Bar.{Bar}
@@ -117,7 +119,7 @@ begins : (c : tie.After-index-of) → c .index-of .result ≡ theStart (from (c 
 begins c = rw (c .before .slot-of .ensures) at (c .index-of .ensures)
 
 -- the bars that are written
-module _ (c : tie.After-is-first) where
+module _ (c : tie.After-row-of) where
   abbrev begun : tie.After-index-of
   begun = c .before
 
@@ -128,14 +130,14 @@ module _ (c : tie.After-is-first) where
   first = from passed
 
   abbrev bars : ℕ → Bar
-  bars = barFrom (c .is-first .result) (now (first .args .side1)) (now (first .args .side2)) (begun .index-of .result)
+  bars = barFrom (rowOf (c .row-of .result)) (first .args .account) (now (first .args .side1)) (now (first .args .side2)) (begun .index-of .result)
 
   bars-are : (p : ℕ) → p < periodsOn (whole first) (identifier first) (first .args .account) (first .args .day)
       → bars p ≡ barFor (mark (whole first) (identifier first) (first .args .account) (first .args .day) (suc p))
   bars-are p l =
       let a = first .args in
-      ap (λ (t : Bool). barFrom t (now (a .side1)) (now (a .side2)) (begun .index-of .result) p) (c .is-first .ensures)
-      ∙ day-marks-at (a .b) (now (a .held)) (now (a .side1)) (now (a .side2)) (a .originator) (a .reference) (a .account) (a .day) (omega arith)
+      ap (λ (row : Authorisation). barFrom row (a .account) (now (a .side1)) (now (a .side2)) (begun .index-of .result) p) (c .row-of .ensures)
+      ∙ day-marks-at (a .b) (now (a .held)) (now (a .side1)) (now (a .side2)) (a .originator) (a .reference) (a .account) (a .day) (omega (arith, first .fits .reference))
       (begun .index-of .result) (begins begun) (allowed (asked passed)) (of-book passed) p l
 
   written : {A : Type 0} (value : Bar → A) (buffer : List A) (d : A)
@@ -196,8 +198,8 @@ index-of-requires c κs =
     let few = slot-few (a .b) (now (a .held)) (now (a .side1)) (now (a .side2)) (identifier (from p)) (a .day) (shown p .is-sound) (shown p .is-held) in
     (of-book p, rw (c .slot-of .ensures) few, omega arith)
 
-is-first-requires : tie.Need-is-first-requires
-is-first-requires c κs = search needs
+row-of-requires : tie.Need-row-of-requires
+row-of-requires c κs = search needs
 
 write-marks-requires : tie.Need-write-marks-requires
 write-marks-requires c κs =
@@ -243,7 +245,7 @@ day-marks-spec =
     returns-3
     slot-of-requires
     index-of-requires
-    is-first-requires
+    row-of-requires
     write-marks-requires
     same-length
     same-length-2

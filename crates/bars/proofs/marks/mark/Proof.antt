@@ -1,7 +1,7 @@
 -- Past the refusals the period has its place in the day's row, and the two volumes there make the bar.
 use borrow.Author.Needs.{needs, sfits-of}
 use borrow.Author.Tests.{not-true, not-false}
-use mathlib.Core.Bool.{Bool, true}
+use mathlib.Core.Bool.{true}
 use mathlib.Core.Path.{_≡_, sym, ap, ap₂, _∙_}
 use Prim.Native.Nat.{ℕ}
 use native.Mathlib.Omega.{arith}
@@ -10,10 +10,12 @@ use lib.ListN.{getD}
 use mir.Facts.{toZ-ofZ}
 use Rattle.words.specs.Rules.{answer}
 use Rattle.meaning.specs.Time.{days, dayOf, isPeriod}
+use Rattle.meaning.specs.Authorisations.{Authorisation}
 use Rattle.meaning.specs.Ledgers.{contracts, theMark, index, identifierOf, slotOf}
 use Rattle.meaning.specs.Books as Books
 use Rattle.meaning.proofs.Clock.{is-period-on}
 use Rattle.book.specs.Structs.{timeIn}
+use Rattle.setups.specs.Structs.{rowOf}
 use Rattle.shown.specs.Figures.{barSeen}
 use Rattle.bars.specs.Marks.{marked, askingRules}
 use Rattle.shown.specs.declared.Bar.{Bar}
@@ -104,8 +106,8 @@ volume-at-requires c κs = search needs
 volume-at-requires-2 : tie.Need-volume-at-requires-2
 volume-at-requires-2 c κs = search needs
 
-is-first-requires : tie.Need-is-first-requires
-is-first-requires c κs = search needs
+row-of-requires : tie.Need-row-of-requires
+row-of-requires c κs = search needs
 
 bar-of-requires : tie.Need-bar-of-requires
 bar-of-requires c κs = search needs
@@ -123,10 +125,10 @@ returns-3 c =
     let done = mark-done (whole s) (identifier s) (a .account) (a .day) (a .period) (allowed (q .before .before)) (is-a-period q) in
     ap₂ (made s) done
     (c .bar-of .ensures
-    ∙ ap₂ (barSeen (f .is-first .result))
+    ∙ ap₂ (barSeen (rowOf (f .row-of .result)) (a .account))
     (toZ-ofZ (sfits-of (v .volume-at .ok)) ∙ v .volume-at .ensures)
     (toZ-ofZ (sfits-of (w .volume-at2 .ok)) ∙ w .volume-at2 .ensures)
-    ∙ ap (λ (t : Bool). barSeen t (getD (now (a .side1)) (r .index-of .result) theMark) (getD (now (a .side2)) (r .index-of .result) theMark)) (f .is-first .ensures)
+    ∙ ap (λ (row : Authorisation). barSeen row (a .account) (getD (now (a .side1)) (r .index-of .result) theMark) (getD (now (a .side2)) (r .index-of .result) theMark)) (f .row-of .ensures)
     ∙ mark-at (a .b) (now (a .held)) (now (a .side1)) (now (a .side2)) (a .originator) (a .reference) (a .account) (a .day) (a .period) (omega arith)
     (r .index-of .result) (placed r) (sym done))
 
@@ -144,6 +146,6 @@ mark-spec =
     index-of-requires
     volume-at-requires
     volume-at-requires-2
-    is-first-requires
+    row-of-requires
     bar-of-requires
     returns-3)

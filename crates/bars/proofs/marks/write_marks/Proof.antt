@@ -7,6 +7,7 @@ use native.Mathlib.Omega.{arith}
 use denote.Ref.{now}
 use lib.ListN.{length, set, length-set}
 use mir.Facts.{toZ-ofZ}
+use Rattle.setups.specs.Structs.{rowOf}
 use Rattle.shown.specs.Figures.{caseOf, firstOf, secondOf, noFigure, barSeen}
 use Rattle.bars.specs.Marks.{overFront, barFrom}
 use Rattle.shown.specs.declared.Bar.{Bar}
@@ -15,21 +16,21 @@ use Rattle.bars.proofs.marks.write_marks.Statement.{statement}
 use Rattle.bars.proofs.marks.write_marks.Tie as tie
 
 abbrev Inv-loop : tie.InvT-loop
-Inv-loop side1 side2 start count first cases₀ firsts₀ seconds₀ p₀ cases firsts seconds p =
+Inv-loop side1 side2 start count row account cases₀ firsts₀ seconds₀ p₀ cases firsts seconds p =
     (p ≤ count)
-    × (cases ≡ overFront p (λ (k : ℕ). caseOf (barFrom first side1 side2 start k)) cases₀)
-    × (firsts ≡ overFront p (λ (k : ℕ). firstOf (barFrom first side1 side2 start k)) firsts₀)
-    × (seconds ≡ overFront p (λ (k : ℕ). secondOf (barFrom first side1 side2 start k)) seconds₀)
+    × (cases ≡ overFront p (λ (k : ℕ). caseOf (barFrom (rowOf row) account side1 side2 start k)) cases₀)
+    × (firsts ≡ overFront p (λ (k : ℕ). firstOf (barFrom (rowOf row) account side1 side2 start k)) firsts₀)
+    × (seconds ≡ overFront p (λ (k : ℕ). secondOf (barFrom (rowOf row) account side1 side2 start k)) seconds₀)
     × (length cases ≡ length cases₀)
     × (length firsts ≡ length firsts₀)
     × (length seconds ≡ length seconds₀)
 
 abbrev μ-loop : tie.MeasureT-loop
-μ-loop side1 side2 start count first cases₀ firsts₀ seconds₀ p₀ cases firsts seconds p = count - p
+μ-loop side1 side2 start count row account cases₀ firsts₀ seconds₀ p₀ cases firsts seconds p = count - p
 
 -- the marks to write
 abbrev bars : tie.Start Inv-loop μ-loop → ℕ → Bar
-bars s = barFrom (s .args .first) (now (s .args .side1)) (now (s .args .side2)) (s .args .start)
+bars s = barFrom (rowOf (s .args .row)) (s .args .account) (now (s .args .side1)) (now (s .args .side2)) (s .args .start)
 
 -- the turn's bar is its place's
 here : (c : tie.After-bar-of Inv-loop μ-loop) → c .bar-of .result ≡ bars (c .before .before .before .before .before .before .before .before) (c .before .before .before .before .loop .p)
@@ -39,7 +40,7 @@ here c =
     let v = w .before in
     let a = v .before .before .before .before .before .before .args in
     c .bar-of .ensures
-    ∙ ap₂ (barSeen (a .first))
+    ∙ ap₂ (barSeen (rowOf (a .row)) (a .account))
     (toZ-ofZ (sfits-of (v .volume-at .ok)) ∙ v .volume-at .ensures)
     (toZ-ofZ (sfits-of (w .volume-at2 .ok)) ∙ w .volume-at2 .ensures)
 
