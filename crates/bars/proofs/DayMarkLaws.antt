@@ -1,41 +1,23 @@
--- The rules of a day's marks, and a buffer whose front a loop writes.
-use mathlib.Core.Bool.{Bool, true, false, not, cond, _||_}
+-- The rules of a day's marks, and a buffer after the question.
+use mathlib.Core.Bool.{Bool, true, false, not, _||_}
 use mathlib.Core.List.{List}
 use mathlib.Core.Logic.{_≢_}
 use mathlib.Core.Path.{_≡_, refl, sym, ap, _∙_}
-use Prim.Native.Nat.{ℕ, suc, _+_, _≤_, _<_}
+use Prim.Native.Nat.{ℕ, suc, _≤_, _<_}
 use lib.Dec.{ltb}
-use lib.ListN.{length, set}
-use borrow.Author.Tests.{ne-eqb, lt-ltb, le-ltb, ltb-false}
+use borrow.Author.Tests.{ne-eqb, ltb-false}
+use Rattle.words.specs.Lists.{onFront}
 use Rattle.words.specs.Rules.{Rule, _when_else_, done, answer}
-use Rattle.laws.proofs.Cases.{by-lt, or-left, or-right}
+use Rattle.laws.proofs.Cases.{or-left, or-right}
 use Rattle.laws.proofs.Rules.{earlier-answers, later-answers}
-use Rattle.laws.proofs.Lists.{mapAt-same, upto-none, upto-more}
+use Rattle.laws.proofs.Fronts.{front-same}
 use Rattle.meaning.specs.Time.{periodsAt, dayOf, hasDay}
 use Rattle.meaning.specs.Ledgers.{contracts}
 use Rattle.meaning.specs.Books.{Book}
 use Rattle.meaning.specs.Bars.{mark}
 use Rattle.shown.specs.Figures.{barFor}
-use Rattle.bars.specs.Marks.{askingRules, dayMarkRules, overFront, dayMarked}
+use Rattle.bars.specs.Marks.{askingRules, dayMarkRules, dayMarked}
 use Rattle.shown.specs.declared.Bar.{Bar}
-
--- ---- the front of a buffer
-
-module _ {A : Type 0} (f : ℕ → A) (buffer : List A) (d : A) where
-  pub front-none : buffer ≡ overFront 0 f buffer
-  unfolding overFront
-  front-none = upto-none (λ (p : ℕ) (old : A). f p) buffer d
-
-  -- a loop's next turn
-  pub front-more : (n : ℕ) → n < length buffer → set (overFront n f buffer) n (f n) ≡ overFront (n + 1) f buffer
-  unfolding overFront
-  front-more = upto-more (λ (p : ℕ) (old : A). f p) buffer d
-
-pub front-same : {A : Type 0} (n : ℕ) (f g : ℕ → A) (buffer : List A) (d : A) → ((p : ℕ) → p < n → f p ≡ g p) → overFront n f buffer ≡ overFront n g buffer
-unfolding overFront
-front-same {A} n f g buffer d e =
-    mapAt-same (λ (p : ℕ) (old : A). cond (ltb p n) (f p) old) (λ (p : ℕ) (old : A). cond (ltb p n) (g p) old) buffer d
-    (λ p h. by-lt p n (λ l. rw (lt-ltb p n l) (e p l)) (λ l. rw (le-ltb p n l)))
 
 -- ---- the rules of a day's marks
 
@@ -94,8 +76,8 @@ module _ {A : Type 0} (value : Bar → A) (b : Book contracts) (i account D : �
 
   -- where the bars written are the marks of the day's periods
   pub day-written : (bars : ℕ → Bar) (d : A) → ((p : ℕ) → p < periodsAt (b .time .codes) (dayOf (b .time) D) → bars p ≡ barFor (mark b i account D (suc p)))
-      → overFront (periodsAt (b .time .codes) (dayOf (b .time) D)) (λ (p : ℕ). value (bars p)) buffer ≡ dayMarked value b i account D 0 buffer
+      → onFront (periodsAt (b .time .codes) (dayOf (b .time) D)) (λ (p : ℕ) (old : A). value (bars p)) buffer ≡ dayMarked value b i account D 0 buffer
   unfolding dayMarked
   day-written bars d e =
-      front-same (periodsAt (b .time .codes) (dayOf (b .time) D)) (λ (p : ℕ). value (bars p)) (λ (p : ℕ). value (barFor (mark b i account D (suc p)))) buffer d
+      front-same (periodsAt (b .time .codes) (dayOf (b .time) D)) (λ (p : ℕ) (old : A). value (bars p)) (λ (p : ℕ) (old : A). value (barFor (mark b i account D (suc p)))) buffer d
       (λ p l. ap value (e p l))

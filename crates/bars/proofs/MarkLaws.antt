@@ -1,6 +1,5 @@
 -- The mark that a period has where no rule refuses it.
 use mathlib.Core.Bool.{true, false, not}
-use mathlib.Core.List.{[]}
 use mathlib.Core.Logic.{_≢_}
 use mathlib.Core.Path.{_≡_, refl, sym, ap₂, _∙_}
 use Prim.Native.Nat.{ℕ}

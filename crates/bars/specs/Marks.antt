@@ -5,7 +5,7 @@ use Prim.Native.Nat.{ℕ, suc, _+_}
 use lib.IntN.{ℤ}
 use lib.ListN.{getD}
 use Rattle.words.specs.Tests.{if_then_else_, _<?_, _=?_}
-use Rattle.words.specs.Lists.{mapAt}
+use Rattle.words.specs.Lists.{onFront}
 use Rattle.words.specs.Rules.{Rule, _when_else_, done, answer}
 use Rattle.meaning.specs.Time.{periodsAt, dayOf, hasDay}
 use Rattle.meaning.specs.Authorisations.{Authorisation, rowAt, inPair}
@@ -49,15 +49,11 @@ dayMarkRules b i account D cases firsts seconds =
     24 when cases <? periods || firsts <? periods || seconds <? periods else
     done
 
--- the first n places of a buffer hold f 0, f 1, ..; the places past them stay
-unfoldable pub overFront : {A : Type 0} → ℕ → (ℕ → A) → List A → List A
-overFront {A} n f buffer = mapAt (λ (p : ℕ) (old : A). if p <? n then f p else old) buffer
-
 -- a buffer after the question: with the answer 0 place p holds a value of the mark of period p + 1, and with a refusal it is as it came
 unfoldable pub dayMarked : {A : Type 0} → (Bar → A) → Book contracts → ℕ → ℕ → ℕ → ℕ → List A → List A
-dayMarked value b i account D refusal buffer =
+dayMarked {A} value b i account D refusal buffer =
     if refusal =? 0
-    then overFront (periodsAt (b .time .codes) (dayOf (b .time) D)) (λ (p : ℕ). value (barFor (Meaning.mark b i account D (suc p)))) buffer
+    then onFront (periodsAt (b .time .codes) (dayOf (b .time) D)) (λ (p : ℕ) (old : A). value (barFor (Meaning.mark b i account D (suc p)))) buffer
     else buffer
 
 -- what the two sides hold in the place p past `start`, as an account of the pair sees it

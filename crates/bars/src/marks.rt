@@ -7,13 +7,15 @@ use book::state;
 use shown::Bar;
 ghost use mathlib.Core.Path.{_≡_};
 ghost use Prim.Native.Nat.{ℕ, _+_, _≤_};
+ghost use lib.Ieee.{Float};
 ghost use lib.ListN.{length};
+ghost use Rattle.words.specs.Lists.{onFront};
 ghost use Rattle.words.specs.Rules.{answer};
 ghost use Rattle.meaning.specs.Ledgers.{identifierOf};
 ghost use Rattle.setups.specs.Structs.{rowOf};
 ghost use Rattle.book.specs.Structs.{bookOf};
 ghost use Rattle.shown.specs.Figures.{caseOf, firstOf, secondOf};
-ghost use Rattle.bars.specs.Marks.{refusedMark, marked, dayMarkRules, overFront, dayMarked, barFrom};
+ghost use Rattle.bars.specs.Marks.{refusedMark, marked, dayMarkRules, dayMarked, barFrom};
 
 // ---- a mark
 
@@ -76,7 +78,7 @@ fn write_marks(
     requires { ⌜ (start + count ≤ 102400) × (count ≤ length (now cases)) × (count ≤ length (now firsts)) × (count ≤ length (now seconds)) ⌝ }
     ensures { λ _. do
       let bar = barFrom (rowOf row) account (now (side1 .entry)) (now (side2 .entry)) start
-      ⌜ (now (cases .exit) ≡ overFront count (λ (p : ℕ). caseOf (bar p)) (now (cases .entry))) × (now (firsts .exit) ≡ overFront count (λ (p : ℕ). firstOf (bar p)) (now (firsts .entry))) × (now (seconds .exit) ≡ overFront count (λ (p : ℕ). secondOf (bar p)) (now (seconds .entry))) ⌝ }
+      ⌜ (now (cases .exit) ≡ onFront count (λ (p : ℕ) (old : ℕ). caseOf (bar p)) (now (cases .entry))) × (now (firsts .exit) ≡ onFront count (λ (p : ℕ) (old : Float). firstOf (bar p)) (now (firsts .entry))) × (now (seconds .exit) ≡ onFront count (λ (p : ℕ) (old : Float). secondOf (bar p)) (now (seconds .entry))) ⌝ }
 {
     let mut p: usize = 0;
     while p < count {

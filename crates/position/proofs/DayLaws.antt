@@ -1,20 +1,20 @@
 -- The places of a day's periods lie in the tables of a sound book, and its sums are gathered slot by slot in the front of what is lent.
 use mathlib.Core.Bool.{false}
 use mathlib.Core.List.{List}
-use mathlib.Core.Path.{_≡_, refl, sym, ap, ap₂, _∙_}
+use mathlib.Core.Path.{_≡_, refl, sym, ap, _∙_}
 use Prim.Native.Nat.{ℕ, suc, _+_, _≤_, _<_}
 use native.Mathlib.Nat.{mul-le-mul-right, suc-mul}
 use native.Mathlib.Omega.{arith}
 use lib.Dec.{eqb}
 use lib.IntN.{ℤ, pos, natAbs, _+ℤ_, +ℤ-idr}
-use lib.ListN.{length, getD, set}
+use lib.ListN.{length, getD}
 use mir.Syntax.{w64}
 use mir.Val.{SFits}
-use borrow.Author.Tests.{lt-ltb, le-ltb, eqb-false}
-use Rattle.words.specs.Tests.{if_then_else_, _<?_}
+use borrow.Author.Tests.{eqb-false}
 use Rattle.words.specs.Below.{sumBelowℤ}
-use Rattle.laws.proofs.Cases.{on, by-lt, or-left, or-right}
-use Rattle.laws.proofs.Lists.{length-mapAt, getD-mapAt, mapAt-is, mapAt-same, upto-more}
+use Rattle.words.specs.Lists.{onFront}
+use Rattle.laws.proofs.Cases.{on, or-left, or-right}
+use Rattle.laws.proofs.Fronts.{front-at, front-kept, front-same, front-join}
 use Rattle.laws.proofs.Machine.{abs-fits}
 use Rattle.laws.proofs.Sums.{sum-more, sum-bound}
 use Rattle.laws.proofs.Whole.{abs-add}
@@ -27,7 +27,7 @@ use Rattle.meaning.proofs.Standing.{sound-opens}
 use Rattle.book.specs.declared.Book.{Book}
 use Rattle.book.specs.Structs.{rowsIn, bookOf}
 use Rattle.book.proofs.SoundParts.{codes-count}
-use Rattle.position.specs.Counting.{DayAsked, PartInside, countedAt, onFront}
+use Rattle.position.specs.Counting.{DayAsked, PartInside, countedAt}
 use Rattle.position.proofs.TotalLaws.{counted-by-place}
 
 -- ---- places
@@ -77,48 +77,13 @@ foreign-none origin account side1 side2 place e =
     (λ m. rw m (seen-other origin v account (eqb-false account (origin .account1) (or-left first second e)) (eqb-false account (origin .account2) (or-right first second e))))
     (λ m. rw m)
 
--- ---- the front of a list, rewritten
-
-module _ (n : ℕ) (f g : ℕ → ℤ → ℤ) (l : List ℤ) where
-  pub front-join : onFront n g (onFront n f l) ≡ onFront n (λ (p : ℕ) (old : ℤ). g p (f p old)) l
-  front-join =
-      let once : ℕ → ℤ → ℤ = λ (p : ℕ) (old : ℤ). if p <? n then f p old else old in
-      let again : ℕ → ℤ → ℤ = λ (p : ℕ) (old : ℤ). if p <? n then g p old else old in
-      mapAt-is (λ (p : ℕ) (old : ℤ). if p <? n then g p (f p old) else old) l (onFront n g (onFront n f l)) (pos 0) (length-mapAt again (onFront n f l) ∙ length-mapAt once l)
-      (λ j k.
-      getD-mapAt again (onFront n f l) j (pos 0) (rw (length-mapAt once l) k)
-      ∙ ap (again j) (getD-mapAt once l j (pos 0) k)
-      ∙ by-lt j n (λ w. rw (lt-ltb j n w)) (λ w. rw (le-ltb j n w)))
-
-  pub front-ext : ((p : ℕ) → p < n → f p (getD l p (pos 0)) ≡ g p (getD l p (pos 0))) → onFront n f l ≡ onFront n g l
-  front-ext h =
-      mapAt-same (λ (p : ℕ) (old : ℤ). if p <? n then f p old else old) (λ (p : ℕ) (old : ℤ). if p <? n then g p old else old) l (pos 0)
-      (λ j k. by-lt j n (λ w. rw (lt-ltb j n w) (h j w)) (λ w. rw (le-ltb j n w)))
-
-module _ (n : ℕ) (f : ℕ → ℤ → ℤ) (l : List ℤ) where
-  pub front-at : (p : ℕ) → p < n → p < length l → getD (onFront n f l) p (pos 0) ≡ f p (getD l p (pos 0))
-  front-at p h k = getD-mapAt (λ (q : ℕ) (old : ℤ). if q <? n then f q old else old) l p (pos 0) k ∙ rw (lt-ltb p n h)
-
-  pub front-kept : ((p : ℕ) → p < n → f p (getD l p (pos 0)) ≡ getD l p (pos 0)) → l ≡ onFront n f l
-  front-kept h =
-      mapAt-is (λ (q : ℕ) (old : ℤ). if q <? n then f q old else old) l l (pos 0) refl
-      (λ j k. by-lt j n (λ w. rw (lt-ltb j n w) (sym (h j w))) (λ w. rw (le-ltb j n w)))
-
-  -- what a loop has not come to yet
-  pub front-next : (p : ℕ) → n ≤ p → p < length l → getD (onFront n f l) p (pos 0) ≡ getD l p (pos 0)
-  front-next p h k = getD-mapAt (λ (q : ℕ) (old : ℤ). if q <? n then f q old else old) l p (pos 0) k ∙ rw (le-ltb p n h)
-
--- a loop's next turn
-pub front-more : (f : ℕ → ℤ → ℤ) (l out : List ℤ) (v : ℤ) (p : ℕ) → p < length l → out ≡ onFront p f l → v ≡ f p (getD l p (pos 0)) → set out p v ≡ onFront (p + 1) f l
-front-more f l out v p h e q = ap₂ (λ (xs : List ℤ) (y : ℤ). set xs p y) e q ∙ upto-more f l (pos 0) p h
-
 -- ---- what a slot adds
 
 -- nothing, to the sums of an account that is not of the pair
 pub foreign-kept : (origin : Authorisation) (account : ℕ) (side1 side2 : List ℤ) (first periods : ℕ) (l : List ℤ) → inPair origin account ≡ false
     → l ≡ onFront periods (λ (p : ℕ) (old : ℤ). old +ℤ countedAt origin account side1 side2 (first + p)) l
 foreign-kept origin account side1 side2 first periods l e =
-    front-kept periods (λ (p : ℕ) (old : ℤ). old +ℤ countedAt origin account side1 side2 (first + p)) l
+    front-kept periods (λ (p : ℕ) (old : ℤ). old +ℤ countedAt origin account side1 side2 (first + p)) l (pos 0)
     (λ p h. ap (λ (z : ℤ). getD l p (pos 0) +ℤ z) (foreign-none origin account side1 side2 (first + p) e) ∙ +ℤ-idr (getD l p (pos 0)))
 
 pub added-fits : (z k : ℤ) → natAbs z ≤ 25600000000 → natAbs k ≤ 2147483648 → SFits w64 (z +ℤ k)
@@ -134,16 +99,16 @@ module _ (b : Book) (held : List ℕ) (side1 side2 : List ℤ) (account d : ℕ)
   pub sums-begin : (periods : ℕ) (lent cleared : List ℤ) → periods ≤ length lent → cleared ≡ onFront periods (λ (p : ℕ) (old : ℤ). pos 0) lent → cleared ≡ onFront periods (sumsBelow 0) cleared
   unfolding sumBelowℤ
   sums-begin periods lent cleared h e =
-      front-kept periods (sumsBelow 0) cleared
-      (λ p k. sym (ap (λ (l : List ℤ). getD l p (pos 0)) e ∙ front-at periods (λ (q : ℕ) (old : ℤ). pos 0) lent p k (omega arith)))
+      front-kept periods (sumsBelow 0) cleared (pos 0)
+      (λ p k. sym (ap (λ (l : List ℤ). getD l p (pos 0)) e ∙ front-at periods (λ (q : ℕ) (old : ℤ). pos 0) lent (pos 0) p k (omega arith)))
 
   pub sums-more : (slot periods first : ℕ) (origin : Authorisation) (lent : List ℤ)
       → origin ≡ originIn (rowsIn (b .setup)) (getD held slot 0) → first ≡ index (b .setup .days) slot d 1
       → onFront periods (λ (p : ℕ) (old : ℤ). old +ℤ countedAt origin account side1 side2 (first + p)) (onFront periods (sumsBelow slot) lent) ≡ onFront periods (sumsBelow (slot + 1)) lent
   sums-more slot periods first origin lent o f =
       let adds : ℕ → ℤ → ℤ = λ (p : ℕ) (old : ℤ). old +ℤ countedAt origin account side1 side2 (first + p) in
-      front-join periods (sumsBelow slot) adds lent
-      ∙ front-ext periods (λ (p : ℕ) (old : ℤ). adds p (sumsBelow slot p old)) (sumsBelow (slot + 1)) lent
+      front-join periods (sumsBelow slot) adds lent (pos 0)
+      ∙ front-same periods (λ (p : ℕ) (old : ℤ). adds p (sumsBelow slot p old)) (sumsBelow (slot + 1)) lent (pos 0)
       (λ p h.
       ap (λ (z : ℤ). sumsBelow slot p (pos 0) +ℤ z) (counted-from b held side1 side2 account d slot origin first o f p)
       ∙ sym (sum-more slot (counted (bookOf b held side1 side2) account d (suc p))))
@@ -152,7 +117,7 @@ module _ (b : Book) (held : List ℕ) (side1 side2 : List ℤ) (account d : ℕ)
   pub sums-end : (slots periods : ℕ) (lent cleared out : List ℤ) → cleared ≡ onFront periods (λ (p : ℕ) (old : ℤ). pos 0) lent → out ≡ onFront periods (sumsBelow slots) cleared
       → out ≡ onFront periods (sumsBelow slots) lent
   sums-end slots periods lent cleared out e q =
-      q ∙ ap (onFront periods (sumsBelow slots)) e ∙ front-join periods (λ (p : ℕ) (old : ℤ). pos 0) (sumsBelow slots) lent
+      q ∙ ap (onFront periods (sumsBelow slots)) e ∙ front-join periods (λ (p : ℕ) (old : ℤ). pos 0) (sumsBelow slots) lent (pos 0)
 
   -- in a sound book each is far from the edge
   pub sums-small : DayAsked (bookOf b held side1 side2) d → (slot p : ℕ) → slot ≤ length held → natAbs (sumsBelow slot p (pos 0)) ≤ 25600000000
@@ -166,5 +131,5 @@ module _ (b : Book) (held : List ℕ) (side1 side2 : List ℤ) (account d : ℕ)
   pub sums-bounded : DayAsked (bookOf b held side1 side2) d → (slot periods : ℕ) (cleared out : List ℤ) → slot ≤ length held → periods ≤ length cleared
       → out ≡ onFront periods (sumsBelow slot) cleared → (p : ℕ) → p < periods → natAbs (getD out p (pos 0)) ≤ 25600000000
   sums-bounded a slot periods cleared out h k e p l =
-      let q : getD out p (pos 0) ≡ sumsBelow slot p (pos 0) = ap (λ (xs : List ℤ). getD xs p (pos 0)) e ∙ front-at periods (sumsBelow slot) cleared p l (omega arith) in
+      let q : getD out p (pos 0) ≡ sumsBelow slot p (pos 0) = ap (λ (xs : List ℤ). getD xs p (pos 0)) e ∙ front-at periods (sumsBelow slot) cleared (pos 0) p l (omega arith) in
       rw q (sums-small a slot p h)

@@ -10,10 +10,11 @@ use lib.Dec.{leb, ltb}
 use lib.IntN.{ℤ, pos}
 use lib.ListN.{length, getD}
 use borrow.Author.Tests.{leb-true, le-leb, ltb-true, lt-ltb, le-ltb, ne-eqb, not-false}
-use Rattle.words.specs.Tests.{if_then_else_, _<?_, within}
+use Rattle.words.specs.Tests.{within}
+use Rattle.words.specs.Lists.{onFront}
 use Rattle.words.specs.Rules.{Rule, answer}
-use Rattle.laws.proofs.Cases.{on, by-lt, and-left, and-right}
-use Rattle.laws.proofs.Lists.{mapAt-same}
+use Rattle.laws.proofs.Cases.{on, and-left, and-right}
+use Rattle.laws.proofs.Fronts.{front-same}
 use Rattle.laws.proofs.Rules.{answer-none}
 use Rattle.meaning.specs.Time.{isPeriodAt, days, dayOf, hasDay, isPeriod}
 use Rattle.meaning.specs.Ledgers.{contracts, index, at, originIn}
@@ -25,8 +26,8 @@ use Rattle.meaning.proofs.Totals.{total-answer, total-is-sum, total-refused}
 use Rattle.book.specs.declared.Book.{Book}
 use Rattle.book.specs.Structs.{rowsIn, bookOf}
 use Rattle.book.proofs.SoundParts.{codes-count}
-use Rattle.position.specs.Counting.{DayAsked, countedAt, sumAnswered, onFront}
-use Rattle.position.specs.Totals.{totalled, dayPeriods, dayTotalRules, periodTotal, dayTotals}
+use Rattle.position.specs.Counting.{DayAsked, countedAt, sumAnswered}
+use Rattle.position.specs.Totals.{totalled, dayPeriods, dayTotalRules, dayTotals}
 
 -- ---- what a slot counts
 
@@ -145,13 +146,6 @@ module _ (b : Meaning.Book contracts) (account D : ℕ) where
       sym (total-is-sum b account D (suc p)
       (total-answer b account D (suc p) ∙ rw (a .is-sound, a .has-account, period-of a p h)))
 
-  stored-period : Asked b account D → (p : ℕ) (old : ℤ) → (if p <? dayPeriods b D then sumOf b account (dayOf (b .time) D) (suc p) else old) ≡ periodTotal b account D p old
-  unfolding periodTotal
-  stored-period a p old =
-      by-lt p (dayPeriods b D)
-      (λ h. rw (lt-ltb p (dayPeriods b D) h) (sum-is-total a p h))
-      (λ h. rw (le-ltb p (dayPeriods b D) h))
-
   module _ (lent : List ℤ) where
     abbrev dayAnswer : ℕ
     dayAnswer = answer (dayTotalRules b account D (length lent))
@@ -185,5 +179,5 @@ module _ (b : Meaning.Book contracts) (account D : ℕ) where
     day-totals-stored a h = (
       rw (a .is-sound, a .has-account, a .has-day, le-ltb (length lent) (dayPeriods b D) h),
       rw (a .is-sound, a .has-account, a .has-day, le-ltb (length lent) (dayPeriods b D) h)
-          (mapAt-same (λ (p : ℕ) (old : ℤ). if p <? dayPeriods b D then sumOf b account (dayOf (b .time) D) (suc p) else old) (periodTotal b account D) lent (pos 0) (λ p l. stored-period a p (getD lent p (pos 0)))),
+          (front-same (dayPeriods b D) (λ (p : ℕ) (old : ℤ). sumOf b account (dayOf (b .time) D) (suc p)) (λ (p : ℕ) (old : ℤ). total b account D (suc p)) lent (pos 0) (sum-is-total a)),
     )

@@ -10,10 +10,10 @@ use lib.Dec.{eqb}
 use lib.Ieee.{fin, binary64, ofInt, toSigned}
 use lib.IntN.{ℤ, pos, _-ℤ_}
 use lib.ListN.{length, getD}
-use borrow.Author.Tests.{eq-eqb, ne-eqb, lt-ltb, le-ltb}
+use borrow.Author.Tests.{eq-eqb, ne-eqb}
 use Rattle.words.specs.Below.{sumBelowℤ}
 use Rattle.words.specs.Rules.{answer}
-use Rattle.laws.proofs.Lists.{getD-mapAt}
+use Rattle.laws.proofs.Fronts.{front-at, front-past}
 use Rattle.laws.proofs.Rules.{numberAt, Exactly, exactly}
 use Rattle.laws.proofs.Sums.{sum-ext}
 use Rattle.meaning.specs.Time.{dayOf}
@@ -26,7 +26,7 @@ use Rattle.book.specs.declared.Book.{Book}
 use Rattle.book.specs.Structs.{bookOf}
 use Rattle.figures.proofs.MwhLaws.{converted-exactly}
 use Rattle.position.specs.Counting.{partOf}
-use Rattle.position.specs.Totals.{totalled, dayPeriods, dayTotalRules, periodTotal, dayTotals, figured}
+use Rattle.position.specs.Totals.{totalled, dayPeriods, dayTotalRules, dayTotals, figured}
 use Rattle.position.specs.declared.Totalled.{Totalled}
 use Rattle.position.specs.declared.Figured.{Figured}
 use Rattle.position.proofs.TotalLaws.{asked, day-asked, sum-is-total}
@@ -68,16 +68,16 @@ module _ (b : Book) (held : List ℕ) (side1 side2 : List ℤ) where
   module _ (account D : ℕ) (lent : List ℤ) (done : answer (dayTotalRules before account D (length lent)) ≡ 0) where
     -- each place of the day holds what `total` answers of its period, and every other place what it held
     pub day-total-is-total : (p : ℕ) → p < dayPeriods before D → p < length lent → getD (dayTotals before account D lent) p (pos 0) ≡ totalled before account D (suc p) .kwh
-    unfolding dayTotals periodTotal totalled
+    unfolding dayTotals totalled
     day-total-is-total p h l =
         rw (eq-eqb (answer (dayTotalRules before account D (length lent))) 0 done)
-        (getD-mapAt (periodTotal before account D) lent p (pos 0) l ∙ rw (lt-ltb p (dayPeriods before D) h))
+        (front-at (dayPeriods before D) (λ (q : ℕ) (old : ℤ). total before account D (suc q)) lent (pos 0) p h l)
 
     pub past-the-day-stays : (p : ℕ) → dayPeriods before D ≤ p → p < length lent → getD (dayTotals before account D lent) p (pos 0) ≡ getD lent p (pos 0)
-    unfolding dayTotals periodTotal
+    unfolding dayTotals
     past-the-day-stays p h l =
         rw (eq-eqb (answer (dayTotalRules before account D (length lent))) 0 done)
-        (getD-mapAt (periodTotal before account D) lent p (pos 0) l ∙ rw (le-ltb p (dayPeriods before D) h))
+        (front-past (dayPeriods before D) (λ (q : ℕ) (old : ℤ). total before account D (suc q)) lent (pos 0) p h l)
 
   -- ---- the day's figures
 

@@ -5,9 +5,8 @@ use mathlib.Core.Path.{_≡_}
 use Prim.Native.Nat.{ℕ, _+_, _≤_, _<_}
 use lib.IntN.{ℤ, pos, natAbs, _-ℤ_}
 use lib.ListN.{length, getD}
-use Rattle.words.specs.Tests.{if_then_else_, _<?_, within}
+use Rattle.words.specs.Tests.{if_then_else_, within}
 use Rattle.words.specs.Below.{sumBelowℤ}
-use Rattle.words.specs.Lists.{mapAt}
 use Rattle.meaning.specs.Time.{days}
 use Rattle.meaning.specs.Authorisations.{Authorisation}
 use Rattle.meaning.specs.Ledgers.{contracts, theMark}
@@ -38,10 +37,6 @@ countedAt origin account side1 side2 place =
 -- a sum as it is answered: 26 in its place where it is beyond 99,999,999,999 either way
 unfoldable pub sumAnswered : ℤ → Totalled
 sumAnswered kwh = if within 99999999999 kwh then record { answer = 0; kwh = kwh } else record { answer = 26; kwh = pos 0 }
-
--- the first n places of a list, rewritten; the places past them stay
-abbrev pub onFront : ℕ → (ℕ → ℤ → ℤ) → List ℤ → List ℤ
-onFront n f l = mapAt (λ (p : ℕ) (old : ℤ). if p <? n then f p old else old) l
 
 -- what is below zero, negated, or what is above
 unfoldable pub partOf : Bool → ℤ → ℤ

@@ -5,7 +5,7 @@ use Prim.Native.Nat.{ℕ, suc}
 use lib.IntN.{ℤ}
 use lib.ListN.{length}
 use Rattle.words.specs.Tests.{if_then_else_, _<?_, _=?_}
-use Rattle.words.specs.Lists.{mapAt}
+use Rattle.words.specs.Lists.{onFront}
 use Rattle.words.specs.Rules.{Rule, _when_else_, done, answer}
 use Rattle.meaning.specs.Time.{periodsAt, dayOf, hasDay}
 use Rattle.meaning.specs.Ledgers.{contracts}
@@ -34,14 +34,13 @@ dayTotalRules b account D room =
     24 when room <? dayPeriods b D else
     done
 
--- place p gets the total of period p + 1, which is 0 where that one is refused by 26; a place past the day's length stays
-unfoldable pub periodTotal : Book contracts → ℕ → ℕ → ℕ → ℤ → ℤ
-periodTotal b account D p old = if p <? dayPeriods b D then Meaning.total b account D (suc p) else old
-
--- what is lent, after the question; a refusal changes nothing
+-- What is lent, after the question: place p gets the total of period p + 1, which is 0 where that one is refused by 26, and a place past the day's
+-- length stays. A refusal changes nothing.
 unfoldable pub dayTotals : Book contracts → ℕ → ℕ → List ℤ → List ℤ
 dayTotals b account D lent =
-    if answer (dayTotalRules b account D (length lent)) =? 0 then mapAt (periodTotal b account D) lent else lent
+    if answer (dayTotalRules b account D (length lent)) =? 0
+    then onFront (dayPeriods b D) (λ (p : ℕ) (old : ℤ). Meaning.total b account D (suc p)) lent
+    else lent
 
 -- ---- the day's figures
 

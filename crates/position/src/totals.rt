@@ -5,12 +5,13 @@ ghost use mathlib.Core.Path.{_≡_};
 ghost use Prim.Native.Nat.{ℕ, suc, _+_, _≤_, _<_};
 ghost use lib.IntN.{ℤ, pos, natAbs, _+ℤ_};
 ghost use lib.ListN.{length, getD};
+ghost use Rattle.words.specs.Lists.{onFront};
 ghost use Rattle.words.specs.Rules.{answer};
 ghost use Rattle.meaning.specs.Time.{periodsAt};
 ghost use Rattle.meaning.specs.Totals.{sumOf};
 ghost use Rattle.setups.specs.Structs.{rowOf};
 ghost use Rattle.book.specs.Structs.{timeIn, bookOf};
-ghost use Rattle.position.specs.Counting.{DayAsked, PartInside, countedAt, sumAnswered, onFront};
+ghost use Rattle.position.specs.Counting.{DayAsked, PartInside, countedAt, sumAnswered};
 ghost use Rattle.position.specs.Totals.{totalled, dayTotalRules, dayTotals};
 
 const LEAST_TOTAL: i64 = -99999999999;

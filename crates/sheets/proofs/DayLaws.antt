@@ -6,12 +6,12 @@ use Prim.Native.Nat.{ℕ, suc, _≤_, _<_}
 use native.Mathlib.Omega.{arith}
 use lib.IntN.{ℤ, pos}
 use lib.ListN.{length, getD, replicate, getD-replicate}
-use borrow.Author.Tests.{ne-eqb, lt-ltb, le-ltb, lt-leb}
+use borrow.Author.Tests.{ne-eqb, le-ltb, lt-leb}
 use Rattle.words.specs.Tests.{_<?_, _≤?_, _=?_}
 use Rattle.words.specs.Rules.{answer}
 use Rattle.words.specs.Lists.{join}
 use Rattle.laws.proofs.Cases.{on, by-lt, and-false}
-use Rattle.laws.proofs.Lists.{length-mapAt, getD-mapAt}
+use Rattle.laws.proofs.Fronts.{front-length, front-at, front-past}
 use Rattle.laws.proofs.Builds.{build-same}
 use Rattle.meaning.specs.Time.{days, dayOf, hasDay, isPeriod, isPeriodAt}
 use Rattle.meaning.specs.Ledgers.{contracts}
@@ -19,7 +19,7 @@ use Rattle.meaning.specs.Books.{Book, hasAccount}
 use Rattle.meaning.specs.Soundness.{sound}
 use Rattle.meaning.specs.Totals.{total, totalRules}
 use Rattle.meaning.proofs.Clock.{periods-le}
-use Rattle.position.specs.Totals.{dayPeriods, dayTotalRules, periodTotal, dayTotals}
+use Rattle.position.specs.Totals.{dayPeriods, dayTotalRules, dayTotals}
 use Rattle.printing.specs.Sheet.{periodLines, dayLines}
 use Rattle.sheets.specs.Parts.{kwhLines}
 
@@ -55,11 +55,14 @@ module _ (b : Book contracts) (account D : ℕ) where
   abbrev zeros : List ℤ
   zeros = replicate 50 (pos 0)
 
+  abbrev totals : ℕ → ℤ → ℤ
+  totals p old = total b account D (suc p)
+
   day-length : length (dayTotals b account D zeros) ≡ 50
   unfolding dayTotals
   day-length =
       on (answer (dayTotalRules b account D (length zeros)) =? 0)
-      (λ e. rw e (length-mapAt (periodTotal b account D) zeros))
+      (λ e. rw e (front-length (dayPeriods b D) totals zeros))
       (λ e. rw e refl)
 
   module _ (p : ℕ) (h : p < 50) where
@@ -71,12 +74,17 @@ module _ (b : Book contracts) (account D : ℕ) where
     unfolding dayTotals
     refused-zero n e = rw (e, ne-eqb (suc n) 0 (λ z. omega (arith, z))) asked-zero
 
-    answered-total : answer (dayTotalRules b account D 50) ≡ 0 → getD (dayTotals b account D zeros) p (pos 0) ≡ periodTotal b account D p (pos 0)
+    -- a period's total, and zero past the day
+    answered-total : answer (dayTotalRules b account D 50) ≡ 0 → p < dayPeriods b D → getD (dayTotals b account D zeros) p (pos 0) ≡ total b account D (suc p)
     unfolding dayTotals
-    answered-total e = rw e (getD-mapAt (periodTotal b account D) zeros p (pos 0) h ∙ ap (periodTotal b account D p) asked-zero)
+    answered-total e l = rw e (front-at (dayPeriods b D) totals zeros (pos 0) p l h)
+
+    past-zero : answer (dayTotalRules b account D 50) ≡ 0 → dayPeriods b D ≤ p → getD (dayTotals b account D zeros) p (pos 0) ≡ pos 0
+    unfolding dayTotals
+    past-zero e l = rw e (front-past (dayPeriods b D) totals zeros (pos 0) p l h ∙ asked-zero)
 
     day-kwh : getD (dayTotals b account D zeros) p (pos 0) ≡ total b account D (suc p)
-    unfolding dayTotalRules answer periodTotal
+    unfolding dayTotalRules answer
     day-kwh =
         on (sound b)
         (λ s.
@@ -84,10 +92,10 @@ module _ (b : Book contracts) (account D : ℕ) where
         (λ a.
         on (hasDay (b .time) D)
         (λ d.
-        answered-total (rw (s, a, d, le-ltb 50 (dayPeriods b D) (periods-le (b .time .codes) (dayOf (b .time) D))))
-        ∙ by-lt p (dayPeriods b D)
-        (λ l. rw (lt-ltb p (dayPeriods b D) l))
-        (λ l. rw (le-ltb p (dayPeriods b D) l) (sym (no-period-zero (suc p) s a (late-period p l)))))
+        let done : answer (dayTotalRules b account D 50) ≡ 0 = rw (s, a, d, le-ltb 50 (dayPeriods b D) (periods-le (b .time .codes) (dayOf (b .time) D))) in
+        by-lt p (dayPeriods b D)
+        (λ l. answered-total done l)
+        (λ l. past-zero done l ∙ sym (no-period-zero (suc p) s a (late-period p l))))
         (λ d. refused-zero 15 (rw (s, a, d)) ∙ sym (no-period-zero (suc p) s a (no-day (suc p) d))))
         (λ a. refused-zero 14 (rw (s, a)) ∙ sym (no-account-zero (suc p) s a)))
         (λ s. refused-zero 0 (rw s) ∙ sym (unsound-zero (suc p) s))

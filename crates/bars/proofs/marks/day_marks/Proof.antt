@@ -10,6 +10,7 @@ use native.Mathlib.Omega.{arith}
 use denote.Ref.{now}
 use lib.Dec.{ltb}
 use lib.ListN.{length}
+use Rattle.words.specs.Lists.{onFront}
 use Rattle.words.specs.Rules.{answer}
 use Rattle.meaning.specs.Time.{Time, hasDay}
 use Rattle.meaning.specs.Authorisations.{Authorisation}
@@ -20,7 +21,7 @@ use Rattle.book.specs.Structs.{timeIn}
 use Rattle.book.proofs.StateLaws.{clock-time}
 use Rattle.setups.specs.Structs.{rowOf}
 use Rattle.shown.specs.Figures.{barFor, caseOf, firstOf, secondOf, noFigure}
-use Rattle.bars.specs.Marks.{askingRules, overFront, dayMarked, barFrom}
+use Rattle.bars.specs.Marks.{askingRules, dayMarked, barFrom}
 use Rattle.shown.specs.declared.Bar.{Bar}
 use Rattle.bars.proofs.RowLaws.{before, start, slot-few, row-few}
 use Rattle.bars.proofs.MarkLaws.{Asks, asks}
@@ -141,9 +142,9 @@ module _ (c : tie.After-row-of) where
       (begun .index-of .result) (begins begun) (allowed (asked passed)) (of-book passed) p l
 
   written : {A : Type 0} (value : Bar → A) (buffer : List A) (d : A)
-      → overFront (counted passed .periods-on .result) (λ (p : ℕ). value (bars p)) buffer ≡ after first value (theAnswer first) buffer
-  written value buffer d =
-      ap (λ (n : ℕ). overFront n (λ (p : ℕ). value (bars p)) buffer) (counted passed .periods-on .ensures)
+      → onFront (counted passed .periods-on .result) (λ (p : ℕ) (old : A). value (bars p)) buffer ≡ after first value (theAnswer first) buffer
+  written {A} value buffer d =
+      ap (λ (n : ℕ). onFront n (λ (p : ℕ) (old : A). value (bars p)) buffer) (counted passed .periods-on .ensures)
       ∙ day-written value (whole first) (identifier first) (first .args .account) (first .args .day) buffer bars d bars-are
       ∙ ap (λ (n : ℕ). after first value n buffer) (done passed)
 

@@ -1,26 +1,27 @@
 -- After p turns the first p places of each buffer are written.
 use borrow.Author.Needs.{needs, sfits-of}
-use mathlib.Core.List.{List}
 use mathlib.Core.Path.{_≡_, refl, ap, ap₂, _∙_}
-use Prim.Native.Nat.{ℕ, _+_, _-_, _≤_, _<_}
+use Prim.Native.Nat.{ℕ, _-_, _≤_}
 use native.Mathlib.Omega.{arith}
 use denote.Ref.{now}
-use lib.ListN.{length, set, length-set}
+use lib.Ieee.{Float}
+use lib.ListN.{length, length-set}
 use mir.Facts.{toZ-ofZ}
+use Rattle.words.specs.Lists.{onFront}
+use Rattle.laws.proofs.Fronts.{front-none, front-more}
 use Rattle.setups.specs.Structs.{rowOf}
 use Rattle.shown.specs.Figures.{caseOf, firstOf, secondOf, noFigure, barSeen}
-use Rattle.bars.specs.Marks.{overFront, barFrom}
+use Rattle.bars.specs.Marks.{barFrom}
 use Rattle.shown.specs.declared.Bar.{Bar}
-use Rattle.bars.proofs.DayMarkLaws.{front-none, front-more}
 use Rattle.bars.proofs.marks.write_marks.Statement.{statement}
 use Rattle.bars.proofs.marks.write_marks.Tie as tie
 
 abbrev Inv-loop : tie.InvT-loop
 Inv-loop side1 side2 start count row account cases₀ firsts₀ seconds₀ p₀ cases firsts seconds p =
     (p ≤ count)
-    × (cases ≡ overFront p (λ (k : ℕ). caseOf (barFrom (rowOf row) account side1 side2 start k)) cases₀)
-    × (firsts ≡ overFront p (λ (k : ℕ). firstOf (barFrom (rowOf row) account side1 side2 start k)) firsts₀)
-    × (seconds ≡ overFront p (λ (k : ℕ). secondOf (barFrom (rowOf row) account side1 side2 start k)) seconds₀)
+    × (cases ≡ onFront p (λ (k : ℕ) (old : ℕ). caseOf (barFrom (rowOf row) account side1 side2 start k)) cases₀)
+    × (firsts ≡ onFront p (λ (k : ℕ) (old : Float). firstOf (barFrom (rowOf row) account side1 side2 start k)) firsts₀)
+    × (seconds ≡ onFront p (λ (k : ℕ) (old : Float). secondOf (barFrom (rowOf row) account side1 side2 start k)) seconds₀)
     × (length cases ≡ length cases₀)
     × (length firsts ≡ length firsts₀)
     × (length seconds ≡ length seconds₀)
@@ -44,19 +45,14 @@ here c =
     (toZ-ofZ (sfits-of (v .volume-at .ok)) ∙ v .volume-at .ensures)
     (toZ-ofZ (sfits-of (w .volume-at2 .ok)) ∙ w .volume-at2 .ensures)
 
--- a turn's store into one of the buffers
-stored : {A : Type 0} (f : ℕ → A) (buffer now : List A) (d x : A) (p : ℕ) → p < length buffer → now ≡ overFront p f buffer → x ≡ f p
-    → set now p x ≡ overFront (p + 1) f buffer
-stored {A} f buffer now d x p h e q = ap₂ (λ (xs : List A) (y : A). set xs p y) e q ∙ front-more f buffer d p h
-
 loop-holds : tie.Need-loop-holds Inv-loop μ-loop
 loop-holds c =
     let s = c .before .before .before in
     let a = s .args in (
       omega arith,
-      front-none (λ (k : ℕ). caseOf (bars s k)) (now (a .cases)) 0,
-      front-none (λ (k : ℕ). firstOf (bars s k)) (now (a .firsts)) noFigure,
-      front-none (λ (k : ℕ). secondOf (bars s k)) (now (a .seconds)) noFigure,
+      front-none (λ (k : ℕ) (old : ℕ). caseOf (bars s k)) (now (a .cases)) 0,
+      front-none (λ (k : ℕ) (old : Float). firstOf (bars s k)) (now (a .firsts)) noFigure,
+      front-none (λ (k : ℕ) (old : Float). secondOf (bars s k)) (now (a .seconds)) noFigure,
       refl,
       refl,
       refl,
@@ -116,9 +112,9 @@ loop-again c =
     let a = s .args in
     let bar = here (k .before) in (
       omega arith,
-      stored (λ (j : ℕ). caseOf (bars s j)) (now (a .cases)) (l .cases) 0 (k .case-of .result) (l .p) (omega arith) (l .inv .1) (k .case-of .ensures ∙ ap caseOf bar),
-      stored (λ (j : ℕ). firstOf (bars s j)) (now (a .firsts)) (l .firsts) noFigure (f .first-of .result) (l .p) (omega arith) (l .inv .2) (f .first-of .ensures ∙ ap firstOf bar),
-      stored (λ (j : ℕ). secondOf (bars s j)) (now (a .seconds)) (l .seconds) noFigure (c .second-of .result) (l .p) (omega arith) (l .inv .3) (c .second-of .ensures ∙ ap secondOf bar),
+      front-more (λ (j : ℕ) (old : ℕ). caseOf (bars s j)) (now (a .cases)) 0 (l .p) (l .cases) (k .case-of .result) (omega arith) (l .inv .1) (k .case-of .ensures ∙ ap caseOf bar),
+      front-more (λ (j : ℕ) (old : Float). firstOf (bars s j)) (now (a .firsts)) noFigure (l .p) (l .firsts) (f .first-of .result) (omega arith) (l .inv .2) (f .first-of .ensures ∙ ap firstOf bar),
+      front-more (λ (j : ℕ) (old : Float). secondOf (bars s j)) (now (a .seconds)) noFigure (l .p) (l .seconds) (c .second-of .result) (omega arith) (l .inv .3) (c .second-of .ensures ∙ ap secondOf bar),
       length-set (l .cases) (l .p) (k .case-of .result) ∙ l .inv .4,
       length-set (l .firsts) (l .p) (f .first-of .result) ∙ l .inv .5,
       length-set (l .seconds) (l .p) (c .second-of .result) ∙ l .inv .6,
@@ -139,9 +135,9 @@ returns c =
     let s = c .before .before .before .before .before in
     let a = s .args in
     let e : l .p ≡ a .count = omega arith in (
-      l .inv .1 ∙ ap (λ (n : ℕ). overFront n (λ (k : ℕ). caseOf (bars s k)) (now (a .cases))) e,
-      l .inv .2 ∙ ap (λ (n : ℕ). overFront n (λ (k : ℕ). firstOf (bars s k)) (now (a .firsts))) e,
-      l .inv .3 ∙ ap (λ (n : ℕ). overFront n (λ (k : ℕ). secondOf (bars s k)) (now (a .seconds))) e,
+      l .inv .1 ∙ ap (λ (n : ℕ). onFront n (λ (k : ℕ) (old : ℕ). caseOf (bars s k)) (now (a .cases))) e,
+      l .inv .2 ∙ ap (λ (n : ℕ). onFront n (λ (k : ℕ) (old : Float). firstOf (bars s k)) (now (a .firsts))) e,
+      l .inv .3 ∙ ap (λ (n : ℕ). onFront n (λ (k : ℕ) (old : Float). secondOf (bars s k)) (now (a .seconds))) e,
     )
 
 pub write-marks-spec : {M : Type 1} → statement M

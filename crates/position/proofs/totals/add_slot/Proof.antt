@@ -11,11 +11,12 @@ use lib.ListN.{length, getD, length-set}
 use mir.Facts.{toZ-ofZ}
 use mir.Syntax.{w64}
 use mir.Val.{SFits, toZ, ofZ}
-use Rattle.laws.proofs.Lists.{upto-none}
+use Rattle.words.specs.Lists.{onFront}
+use Rattle.laws.proofs.Fronts.{front-past, front-none, front-more}
 use Rattle.laws.proofs.Machine.{back}
 use Rattle.setups.specs.Structs.{rowOf}
-use Rattle.position.specs.Counting.{countedAt, onFront}
-use Rattle.position.proofs.DayLaws.{foreign-kept, front-next, front-more, added-fits}
+use Rattle.position.specs.Counting.{countedAt}
+use Rattle.position.proofs.DayLaws.{foreign-kept, added-fits}
 use Rattle.position.proofs.totals.add_slot.Statement.{statement}
 use Rattle.position.proofs.totals.add_slot.Tie as tie
 
@@ -40,7 +41,7 @@ returns c =
     foreign-kept (rowOf (a .origin)) (a .account) (now (a .side1)) (now (a .side2)) (a .first) (a .periods) (now (a .out)) (sym (pair .ensures) ∙ not-true (pair .result) (c .if1 .taken))
 
 loop-holds : tie.Need-loop-holds Inv-loop μ-loop
-loop-holds c = let s = c .before .before in (omega arith, refl, upto-none (adds s) (now (s .args .out)) (pos 0))
+loop-holds c = let s = c .before .before in (omega arith, refl, front-none (adds s) (now (s .args .out)) (pos 0))
 
 add-counted-at : tie.Need-add-counted-at Inv-loop μ-loop
 add-counted-at c = omega (arith, c .before .before .before .before .pre .0 .in1)
@@ -70,7 +71,7 @@ module _ (c : tie.After-so-far Inv-loop μ-loop) where
   kept : getD (at-loop .loop .out) (at-loop .loop .p) (pos 0) ≡ came
   kept =
       ap (λ (l : List ℤ). getD l (at-loop .loop .p) (pos 0)) (at-loop .loop .inv .2)
-      ∙ front-next (at-loop .loop .p) (adds start) (now (start .args .out)) (at-loop .loop .p) (omega arith) (omega arith)
+      ∙ front-past (at-loop .loop .p) (adds start) (now (start .args .out)) (pos 0) (at-loop .loop .p) (omega arith) (omega arith)
 
   added : toZ w64 (ofZ w64 (getD (at-loop .loop .out) (at-loop .loop .p) (pos 0))) +ℤ toZ w64 (ofZ w64 (c .before .counted-at .result)) ≡ adds start (at-loop .loop .p) came
   added =
@@ -105,7 +106,7 @@ loop-again c =
     let s = start c in (
       omega arith,
       length-set (l .out) (l .p) _ ∙ l .inv .1,
-      front-more (adds s) (now (s .args .out)) (l .out) _ (l .p) (omega arith) (l .inv .2) (rw (added c) (toZ-ofZ {w = w64} (fits c))),
+      front-more (adds s) (now (s .args .out)) (pos 0) (l .p) (l .out) _ (omega arith) (l .inv .2) (rw (added c) (toZ-ofZ {w = w64} (fits c))),
     )
 
 same-length : tie.Need-same-length Inv-loop μ-loop

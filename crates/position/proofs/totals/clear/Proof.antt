@@ -6,9 +6,8 @@ use native.Mathlib.Omega.{arith}
 use denote.Ref.{now}
 use lib.IntN.{ℤ, pos}
 use lib.ListN.{length, length-set}
-use Rattle.laws.proofs.Lists.{upto-none}
-use Rattle.position.specs.Counting.{onFront}
-use Rattle.position.proofs.DayLaws.{front-more}
+use Rattle.words.specs.Lists.{onFront}
+use Rattle.laws.proofs.Fronts.{front-none, front-more}
 use Rattle.position.proofs.totals.clear.Statement.{statement}
 use Rattle.position.proofs.totals.clear.Tie as tie
 
@@ -22,7 +21,7 @@ abbrev μ-loop : tie.MeasureT-loop
 μ-loop out₀ periods place₀ out place = periods - place
 
 loop-holds : tie.Need-loop-holds Inv-loop μ-loop
-loop-holds c = (omega arith, refl, upto-none nothing (now (c .args .out)) (pos 0))
+loop-holds c = (omega arith, refl, front-none nothing (now (c .args .out)) (pos 0))
 
 mul-out : tie.Need-mul-out Inv-loop μ-loop
 mul-out c = search needs
@@ -40,7 +39,7 @@ loop-again : tie.Need-loop-again Inv-loop μ-loop
 loop-again c =
     let l = c .before .loop in
     let s = c .before .before in
-    (omega arith, length-set (l .out) (l .place) (pos 0) ∙ l .inv .1, front-more nothing (now (s .args .out)) (l .out) (pos 0) (l .place) (omega arith) (l .inv .2) refl)
+    (omega arith, length-set (l .out) (l .place) (pos 0) ∙ l .inv .1, front-more nothing (now (s .args .out)) (pos 0) (l .place) (l .out) (pos 0) (omega arith) (l .inv .2) refl)
 
 same-length : tie.Need-same-length Inv-loop μ-loop
 same-length c = c .before .loop .inv .1

@@ -5,14 +5,14 @@ use Prim.Native.Nat.{_+_, _-_, _≤_}
 use native.Mathlib.Omega.{arith}
 use denote.Ref.{now}
 use lib.ListN.{length}
-use Rattle.laws.proofs.Lists.{length-mapAt}
+use Rattle.words.specs.Lists.{onFront}
+use Rattle.laws.proofs.Fronts.{front-length}
 use Rattle.meaning.specs.Time.{Time, periodsAt}
 use Rattle.meaning.specs.Totals.{sumOf}
 use Rattle.meaning.proofs.Clock.{periods-le}
 use Rattle.book.specs.Structs.{timeIn}
 use Rattle.book.proofs.StateLaws.{clock-time, rows-length, place-few, origin-read}
 use Rattle.setups.specs.Structs.{rowOf}
-use Rattle.position.specs.Counting.{onFront}
 use Rattle.position.proofs.DayLaws.{slots-few, day-inside, sumsBelow, sums-begin, sums-more, sums-end, sums-bounded}
 use Rattle.position.proofs.totals.store_totals.Statement.{statement}
 use Rattle.position.proofs.totals.store_totals.Tie as tie
@@ -46,7 +46,7 @@ clear-requires c κs = omega (arith, day-periods (c .before), c .before .before 
 
 -- what was cleared is as long as what is lent, and has room for the day
 cleared-length : (c : tie.After-clear Inv-loop μ-loop) → length (c .clear .last .0) ≡ length (now (c .before .before .before .before .before .args .out))
-cleared-length c = ap length (c .clear .ensures) ∙ length-mapAt _ (now (c .before .before .before .before .before .args .out))
+cleared-length c = ap length (c .clear .ensures) ∙ front-length _ _ (now (c .before .before .before .before .before .args .out))
 
 room : (c : tie.After-clear Inv-loop μ-loop) → c .before .before .periods-at .result ≤ length (now (c .before .before .before .before .before .args .out))
 room c = omega (arith, day-periods (c .before .before), c .before .before .before .before .before .pre .1)
@@ -124,7 +124,7 @@ loop-again c =
     ∙ ap (onFront n _) (l .loop .inv .2)
     ∙ sums-more (a .b) (now (a .held)) (now (a .side1)) (now (a .side2)) (a .account) (a .d) (l .loop .slot) n (c .before .before .before .place-of .result) (rowOf (o .origin-row .result)) (k .clear .last .0)
     origin (c .before .before .before .place-of .ensures) in
-    (omega arith, ap length more ∙ length-mapAt _ (k .clear .last .0), more)
+    (omega arith, ap length more ∙ front-length _ _ (k .clear .last .0), more)
 
 same-length : tie.Need-same-length Inv-loop μ-loop
 same-length c = let k = c .before .before .before .before in c .before .loop .inv .1 ∙ cleared-length k
