@@ -9,24 +9,29 @@ use lib.ListN.{length, getD, take, drop, length-map, List·getD-eq-default}
 use denote.Laws.{Is}
 use denote.Struct.Declared.{row}
 use denote.Struct.Laws.{owed, vals}
-use Rattle.words.specs.Tests.{_<?_, between, within}
+use Rattle.words.specs.Tests.{_<?_, _=?_, between, within}
 use Rattle.words.specs.Below.{someBelow}
 use Rattle.words.specs.Lists.{build}
 use Rattle.laws.proofs.Below.{some-none, some-front, some-miss, some-all, some-ext}
-use Rattle.laws.proofs.Builds.{length-build, getD-build, getD-build-past, any-build}
+use Rattle.laws.proofs.Builds.{length-build, getD-build-past, any-build}
 use Rattle.laws.proofs.Cases.{by-lt, not-not, same-false}
-use Rattle.meaning.specs.Time.{periodsAt}
+use Rattle.meaning.specs.Time.{periodsAt, everyGateClosed, currentDay}
+use Rattle.meaning.specs.Authorisations.{Authorisation, rowAt, inForce}
 use Rattle.meaning.specs.Ledgers.{Sort, contracts}
 use Rattle.meaning.specs.Messages as Messages
+use Rattle.meaning.specs.Messages.{writes}
 use Rattle.meaning.specs.Books as Books
-use Rattle.meaning.specs.Notifications.{keyOrAgentWrong, originatorRight, highestPeriod, rising, periodWrong, volumeWrong, notificationRules}
+use Rattle.meaning.specs.Notifications.{under, keyOrAgentWrong, originatorRight, highestPeriod, rising, periodWrong, volumeWrong, notificationRules}
+use Rattle.clock.specs.declared.Clock.{Clock}
+use Rattle.clock.specs.Structs.{timeOf}
 use Rattle.setups.specs.Structs.{codesOf}
 use Rattle.messages.specs.declared.Notification.{Notification}
 use Rattle.messages.specs.Structs.{noEntry, entryOf, entriesOf, notificationOf}
 use Rattle.messages.proofs.Notification as Note
 use Rattle.messages.proofs.Notification.Laws as NoteLaws
 use Rattle.book.specs.declared.Book.{Book}
-use Rattle.book.specs.Structs.{bookOf}
+use Rattle.book.specs.Structs.{timeIn, clockIn, rowsIn, bookOf}
+use Rattle.book.proofs.StateLaws.{clock-time}
 use Rattle.checks.specs.Checks.{checkRules}
 
 -- ---- what the types say
@@ -37,6 +42,28 @@ module _ (n : Notification) (g : Is (row Note.the-type) n (vals Note.the-type No
 
   pub entries-length : length (n .entries) ≡ 50
   entries-length = simp length-map at (owed Note.the-type NoteLaws.the-laws n (vals Note.the-type NoteLaws.the-laws n) g .1 .1 .1 .1 .1 .1 .1 .1 .0 .1 .0 .1)
+
+-- ---- the clock, which the code asks by value
+
+module _ (b : Book) {c : Clock} (e : c ≡ clockIn b) where
+  pub gates-test : {r : Bool} → r ≡ everyGateClosed (timeOf c) → r ≡ everyGateClosed (timeIn b)
+  gates-test q = q ∙ ap everyGateClosed (clock-time b e)
+
+  pub today-is : {D : ℕ} → D ≡ currentDay (timeOf c) → D ≡ currentDay (timeIn b)
+  today-is q = q ∙ ap currentDay (clock-time b e)
+
+-- ---- the authorisation that it is sent under, by its row
+
+module _ (b : Book) (n : Notification) {a : Authorisation} (e : a ≡ rowAt (rowsIn (b .setup)) (n .authorisation)) where
+  pub key-test : {r : Bool} → r ≡ not (n .key =? a .key) || not (n .agent =? a .agent1 || n .agent =? a .agent2)
+      → r ≡ keyOrAgentWrong (bookOf b [] [] []) (notificationOf n)
+  unfolding keyOrAgentWrong writes notificationOf
+  key-test q = rw (← e) q
+
+  pub force-test : {r : Bool} {today : ℕ} → today ≡ currentDay (timeIn b) → r ≡ inForce a today
+      → not r ≡ not (inForce (under (bookOf b [] [] []) (notificationOf n)) (currentDay (timeIn b)))
+  unfolding notificationOf
+  force-test today q = rw (← e, ← today) (ap not q)
 
 -- ---- days
 

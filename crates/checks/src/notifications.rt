@@ -8,13 +8,13 @@ ghost use mathlib.Core.Path.{_≡_};
 ghost use Prim.Native.Nat.{min};
 ghost use Rattle.words.specs.Tests.{_=?_, within};
 ghost use Rattle.words.specs.Rules.{answer};
-ghost use Rattle.meaning.specs.Time.{dayOf, everyGateClosed, currentDay};
+ghost use Rattle.meaning.specs.Time.{dayOf, currentDay};
 ghost use Rattle.meaning.specs.Authorisations.{rowAt, inForce};
 ghost use Rattle.meaning.specs.Notifications.{originatorRight, highestPeriod, periodWrong, volumeWrong};
 ghost use Rattle.messages.specs.Structs.{notificationOf};
 ghost use Rattle.setups.specs.Structs.{rowOf};
 ghost use Rattle.book.specs.Structs.{timeIn, rowsIn, bookOf};
-ghost use Rattle.checks.specs.Checks.{checkRules, lateRules};
+ghost use Rattle.checks.specs.Checks.{authorisationRules, dayRules, entryRules, checkRules, lateRules};
 
 const MOST_ENTRIES: u8 = 50;
 
@@ -135,38 +135,49 @@ fn volume_wrong(n: messages::Notification) -> bool
     false
 }
 
-// The number of the first rule from 2 to 11 that refuses the notification; 0 where none does.
-pub fn checks_refusal(b: Book, n: messages::Notification) -> u8
-    ensures { λ r. ⌜ r ≡ answer (checkRules (bookOf b [] [] []) (notificationOf n)) ⌝ }
+// 3 to 6: its authorisation is one of the book's, and it may be sent under it today.
+fn authorisation_refusal(b: Book, n: messages::Notification, today: u32) -> u8
+    requires { ⌜ today ≡ currentDay (timeIn b) ⌝ }
+    ensures { λ r. ⌜ r ≡ answer (authorisationRules (bookOf b [] [] []) (notificationOf n)) ⌝ }
 {
-    let s = b.setup;
-    let time = state::clock_of(b);
-    if clock::every_gate_closed(time) {
-        return numbers::EVERY_GATE_CLOSED;
-    }
-    if s.authorisations <= n.authorisation {
+    if b.setup.authorisations <= n.authorisation {
         return numbers::NO_AUTHORISATION;
     }
     let row = state::row_of(b, n.authorisation as u32);
     if key_or_agent_wrong(row, n.key, n.agent) {
         return numbers::KEY_OR_AGENT_WRONG;
     }
-    let today = clock::current_day(time);
     if !in_force(row, today) {
         return numbers::NOT_IN_FORCE;
     }
     if originator_wrong(b, n, row, today) {
         return numbers::ORIGINATOR_WRONG;
     }
+    0
+}
+
+// 7 to 9: its first and last day, against each other, today and the book.
+fn days_refusal(b: Book, n: messages::Notification, today: u32) -> u8
+    requires { ⌜ today ≡ currentDay (timeIn b) ⌝ }
+    ensures { λ r. ⌜ r ≡ answer (dayRules (bookOf b [] [] []) (notificationOf n)) ⌝ }
+{
     if n.last < n.first {
         return numbers::LAST_BEFORE_FIRST;
     }
     if (n.last as u32) < today {
         return numbers::LAST_DAY_PAST;
     }
+    let s = b.setup;
     if s.first as u32 + s.days as u32 <= n.first as u32 {
         return numbers::FIRST_DAY_AFTER_BOOK;
     }
+    0
+}
+
+// 10 and 11: its entries.
+fn entries_refusal(b: Book, n: messages::Notification) -> u8
+    ensures { λ r. ⌜ r ≡ answer (entryRules (bookOf b [] [] []) (notificationOf n)) ⌝ }
+{
     if period_wrong(b, n) {
         return numbers::PERIOD_WRONG;
     }
@@ -174,6 +185,26 @@ pub fn checks_refusal(b: Book, n: messages::Notification) -> u8
         return numbers::VOLUME_WRONG;
     }
     0
+}
+
+// The number of the first rule from 2 to 11 that refuses the notification; 0 where none does.
+pub fn checks_refusal(b: Book, n: messages::Notification) -> u8
+    ensures { λ r. ⌜ r ≡ answer (checkRules (bookOf b [] [] []) (notificationOf n)) ⌝ }
+{
+    let time = state::clock_of(b);
+    if clock::every_gate_closed(time) {
+        return numbers::EVERY_GATE_CLOSED;
+    }
+    let today = clock::current_day(time);
+    let authorisation = authorisation_refusal(b, n, today);
+    if authorisation != 0 {
+        return authorisation;
+    }
+    let days = days_refusal(b, n, today);
+    if days != 0 {
+        return days;
+    }
+    entries_refusal(b, n)
 }
 
 // 12, 13 and 14, of its kind, its authorisation's type, its slot and the number of slots.

@@ -38,8 +38,18 @@ element-copy-out-e c = search needs
 volume-out-requires : tie.Need-volume-out-requires Inv-loop μ-loop
 volume-out-requires c κs = search needs
 
+-- the places that the answers look back to
+abbrev Counted : Type 0
+Counted = tie.After-count-in Inv-loop μ-loop
+
+abbrev Turn : Type 0
+Turn = tie.At-loop Inv-loop μ-loop
+
+abbrev turnOf : tie.After-volume-out Inv-loop μ-loop → Turn
+turnOf c = c .before .before .before .before
+
 -- the test of the entry at the loop's place
-tested : (c : tie.After-volume-out Inv-loop μ-loop) → c .volume-out .result ≡ wrongVolume (c .before .before .before .before .before .before .args .t1) (c .before .before .before .before .loop .k)
+tested : (c : tie.After-volume-out Inv-loop μ-loop) → c .volume-out .result ≡ wrongVolume (turnOf c .before .before .args .t1) (turnOf c .loop .k)
 tested c = c .volume-out .ensures ∙ rw (toZ-ofZ {w = w32} (record { sfits = c .before .struct-told .given .1 .0 .1 }))
 
 -- what the whole search answers
@@ -50,9 +60,10 @@ found c =
 
 returns : tie.Need-returns Inv-loop μ-loop
 returns c =
-    let p = c .before .before .before .before .before .before in
-    let l = c .before .before .before .before .before .loop in
-    sym (some-hit (p .count-in .result) (wrongVolume (p .before .args .t1)) (l .k) (omega arith) (sym (tested (c .before)) ∙ c .if1 .taken)) ∙ found p
+    let counted : Counted = search in
+    let turn : Turn = search in
+    let n = counted .before .args .t1 in
+    sym (some-hit (counted .count-in .result) (wrongVolume n) (turn .loop .k) (omega arith) (sym (tested (c .before)) ∙ c .if1 .taken)) ∙ found counted
 
 add-k : tie.Need-add-k Inv-loop μ-loop
 add-k c = search needs
@@ -62,16 +73,19 @@ loop-less c = search needs
 
 loop-again : tie.Need-loop-again Inv-loop μ-loop
 loop-again c =
-    let n = c .before .before .before .before .before .before .before .args .t1 in
-    let l = c .before .before .before .before .before .loop in
+    let counted : Counted = search in
+    let turn : Turn = search in
+    let n = counted .before .args .t1 in
+    let l = turn .loop in
     let e : wrongVolume n (l .k) ≡ false = sym (tested (c .before)) ∙ c .if1 .left in
     (omega arith, l .inv .1, some-more (l .k) (wrongVolume n) ∙ rw (l .inv .2, e))
 
 returns-2 : tie.Need-returns-2 Inv-loop μ-loop
 returns-2 c =
-    let p = c .before .before in
-    let e : c .before .loop .k ≡ p .count-in .result = omega arith in
-    sym (c .before .loop .inv .2) ∙ rw e (found p)
+    let counted : Counted = search in
+    let turn : Turn = search in
+    let e : turn .loop .k ≡ counted .count-in .result = omega arith in
+    sym (turn .loop .inv .2) ∙ rw e (found counted)
 
 pub volume-wrong-spec : {M : Type 1} → statement M
 volume-wrong-spec =
