@@ -113,19 +113,17 @@ module _ (b : Book) (n : messages.Notification) (row : setups.Authorisation) (e 
   unfolding writes notificationOf
   row-writes-two = ap (λ (a : Authorisation). n .agent =? a .agent2) e
 
--- ---- a place, by the sides that are written
+  -- ---- a place, by the sides that are written: what the code answers, r, is what the place states
 
-module _ (b : Book) (held : List ℕ) (side1 side2 : List ℤ) (n : Notification contracts) (w1 w2 : Bool) where
-  pub place-states : (s d p : ℕ) → w1 ≡ writes (rowsIn (b .setup)) n one → w2 ≡ writes (rowsIn (b .setup)) n two
-      → statesAt (bookOf b held side1 side2) n s d (suc p) ≡ statesPlace side1 side2 w1 w2 (placeOf (b .setup .days) s d p)
-  unfolding statesAt statesPlace at index
-  place-states s d p e1 e2 = let q : suc p - 1 ≡ p = omega arith in rw (e1, e2, codes-own, q)
+  module _ {w1 w2 : Bool} (e1 : w1 ≡ n .agent =? row .agent1) (e2 : w2 ≡ n .agent =? row .agent2) (held : List ℕ) (side1 side2 : List ℤ) (s d p : ℕ)
+      {r : Bool} (q : r ≡ statesPlace side1 side2 w1 w2 (placeOf (b .setup .days) s d p)) where
+    pub place-states : statesAt (bookOf b held side1 side2) (notificationOf n) s d (suc p) ≡ r
+    unfolding statesAt statesPlace at index
+    place-states = let z : suc p - 1 ≡ p = omega arith in rw (q, e1, e2, row-writes-one, row-writes-two, codes-own, z)
 
-  -- and of an open period
-  pub open-states : (s d p : ℕ) → w1 ≡ writes (rowsIn (b .setup)) n one → w2 ≡ writes (rowsIn (b .setup)) n two
-      → b .closed - gatesBefore (timeIn b .codes) d ≤ p
-      → onPeriod (bookOf b held side1 side2) n s d p ≡ statesPlace side1 side2 w1 w2 (placeOf (b .setup .days) s d p)
-  open-states s d p e1 e2 l = open-period (bookOf b held side1 side2) n s d p l ∙ place-states s d p e1 e2
+    -- and of an open period
+    pub open-states : b .closed - gatesBefore (timeIn b .codes) d ≤ p → onPeriod (bookOf b held side1 side2) (notificationOf n) s d p ≡ r
+    open-states l = open-period (bookOf b held side1 side2) (notificationOf n) s d p l ∙ place-states
 
 -- ---- rows, identifiers and days
 
