@@ -36,8 +36,8 @@ key-or-agent-wrong-requires c κs = search needs
 
 returns-2 : tie.Need-returns-2
 returns-2 c =
-    let start : tie.Start = search in
     let own : tie.After-row-of = search in
+    let start : tie.Start = search in
     answered _ (Answers.passed (known start (search)) (Answers.met (sym (key-test (start .args .b) (start .args .n) (own .row-of .ensures) (c .before .key-or-agent-wrong .ensures)) ∙ c .if2 .taken)))
 
 in-force-requires : tie.Need-in-force-requires
@@ -45,9 +45,9 @@ in-force-requires c κs = search needs
 
 returns-3 : tie.Need-returns-3
 returns-3 c =
-    let start : tie.Start = search in
-    let own : tie.After-row-of = search in
     let keyed : tie.Else2 = search in
+    let own : tie.After-row-of = search in
+    let start : tie.Start = search in
     answered _
     (Answers.passed (known start (search))
     (Answers.passed (sym (key-test (start .args .b) (start .args .n) (own .row-of .ensures) (keyed .before .key-or-agent-wrong .ensures)) ∙ keyed .if2 .left)
@@ -58,10 +58,10 @@ originator-wrong-requires c κs = search needs
 
 returns-4 : tie.Need-returns-4
 returns-4 c =
-    let start : tie.Start = search in
-    let own : tie.After-row-of = search in
-    let keyed : tie.Else2 = search in
     let forced : tie.Else3 = search in
+    let keyed : tie.Else2 = search in
+    let own : tie.After-row-of = search in
+    let start : tie.Start = search in
     answered _
     (Answers.passed (known start (search))
     (Answers.passed (sym (key-test (start .args .b) (start .args .n) (own .row-of .ensures) (keyed .before .key-or-agent-wrong .ensures)) ∙ keyed .if2 .left)
@@ -70,10 +70,10 @@ returns-4 c =
 
 returns-5 : tie.Need-returns-5
 returns-5 c =
-    let start : tie.Start = search in
-    let own : tie.After-row-of = search in
-    let keyed : tie.Else2 = search in
     let forced : tie.Else3 = search in
+    let keyed : tie.Else2 = search in
+    let own : tie.After-row-of = search in
+    let start : tie.Start = search in
     answered _
     (Answers.passed (known start (search))
     (Answers.passed (sym (key-test (start .args .b) (start .args .n) (own .row-of .ensures) (keyed .before .key-or-agent-wrong .ensures)) ∙ keyed .if2 .left)

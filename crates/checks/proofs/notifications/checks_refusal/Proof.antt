@@ -30,8 +30,8 @@ every-gate-closed-requires c κs = search needs
 returns : tie.Need-returns
 unfolding checkRules
 returns c =
-    let start : tie.Start = search in
     let time : tie.After-clock-of = search in
+    let start : tie.Start = search in
     answered _ (Answers.met (sym (gates-test (start .args .b) (time .clock-of .ensures) (c .before .every-gate-closed .ensures)) ∙ c .if1 .taken))
 
 current-day-requires : tie.Need-current-day-requires
@@ -39,34 +39,34 @@ current-day-requires c κs = search needs
 
 authorisation-refusal-requires : tie.Need-authorisation-refusal-requires
 authorisation-refusal-requires c κs =
-    let start : tie.Start = search in
     let time : tie.After-clock-of = search in
+    let start : tie.Start = search in
     today-is (start .args .b) (time .clock-of .ensures) (c .current-day .ensures)
 
 returns-2 : tie.Need-returns-2
 unfolding checkRules
 returns-2 c =
-    let start : tie.Start = search in
-    let time : tie.After-clock-of = search in
     let some : tie.Else1 = search in
+    let time : tie.After-clock-of = search in
+    let start : tie.Start = search in
     answered _
     (Answers.passed (sym (gates-test (start .args .b) (time .clock-of .ensures) (some .before .every-gate-closed .ensures)) ∙ some .if1 .left)
     (part-met (authorisation start) (days start ++ entries start) (c .before .authorisation-refusal .ensures) (c .if2 .taken)))
 
 days-refusal-requires : tie.Need-days-refusal-requires
 days-refusal-requires c κs =
-    let start : tie.Start = search in
-    let time : tie.After-clock-of = search in
     let day : tie.After-current-day = search in
+    let time : tie.After-clock-of = search in
+    let start : tie.Start = search in
     today-is (start .args .b) (time .clock-of .ensures) (day .current-day .ensures)
 
 returns-3 : tie.Need-returns-3
 unfolding checkRules
 returns-3 c =
-    let start : tie.Start = search in
-    let time : tie.After-clock-of = search in
-    let some : tie.Else1 = search in
     let sent : tie.Else2 = search in
+    let some : tie.Else1 = search in
+    let time : tie.After-clock-of = search in
+    let start : tie.Start = search in
     answered _
     (Answers.passed (sym (gates-test (start .args .b) (time .clock-of .ensures) (some .before .every-gate-closed .ensures)) ∙ some .if1 .left)
     (part-passed (authorisation start) (days start ++ entries start) (sent .before .authorisation-refusal .ensures) refl (sent .if2 .left)
@@ -78,11 +78,11 @@ entries-refusal-requires c κs = search needs
 returns-4 : tie.Need-returns-4
 unfolding checkRules
 returns-4 c =
-    let start : tie.Start = search in
-    let time : tie.After-clock-of = search in
-    let some : tie.Else1 = search in
-    let sent : tie.Else2 = search in
     let dated : tie.Else3 = search in
+    let sent : tie.Else2 = search in
+    let some : tie.Else1 = search in
+    let time : tie.After-clock-of = search in
+    let start : tie.Start = search in
     answered _
     (Answers.passed (sym (gates-test (start .args .b) (time .clock-of .ensures) (some .before .every-gate-closed .ensures)) ∙ some .if1 .left)
     (part-passed (authorisation start) (days start ++ entries start) (sent .before .authorisation-refusal .ensures) refl (sent .if2 .left)

@@ -18,9 +18,9 @@ returns-2 c =
 returns-3 : tie.Need-returns-3
 unfolding lateRules
 returns-3 c =
-    let start : tie.Start = search in
-    let replaces : tie.Else1 = search in
     let adds : tie.Else2 = search in
+    let replaces : tie.Else1 = search in
+    let start : tie.Start = search in
     answered _
     (Answers.passed (replaces .if1 .left)
     (Answers.passed (adds .if2 .left) (Answers.met (le-leb (start .args .slots) (start .args .slot) (c .if3 .taken)))))
@@ -28,9 +28,9 @@ returns-3 c =
 returns-4 : tie.Need-returns-4
 unfolding lateRules
 returns-4 c =
-    let start : tie.Start = search in
-    let replaces : tie.Else1 = search in
     let adds : tie.Else2 = search in
+    let replaces : tie.Else1 = search in
+    let start : tie.Start = search in
     answered _
     (Answers.passed (replaces .if1 .left)
     (Answers.passed (adds .if2 .left) (Answers.passed (lt-leb (start .args .slots) (start .args .slot) (c .if3 .left)) Answers.none)))

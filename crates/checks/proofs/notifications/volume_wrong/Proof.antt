@@ -60,8 +60,8 @@ found c =
 
 returns : tie.Need-returns Inv-loop μ-loop
 returns c =
-    let counted : Counted = search in
     let turn : Turn = search in
+    let counted : Counted = search in
     let n = counted .before .args .t1 in
     sym (some-hit (counted .count-in .result) (wrongVolume n) (turn .loop .k) (omega arith) (sym (tested (c .before)) ∙ c .if1 .taken)) ∙ found counted
 
@@ -73,8 +73,8 @@ loop-less c = search needs
 
 loop-again : tie.Need-loop-again Inv-loop μ-loop
 loop-again c =
-    let counted : Counted = search in
     let turn : Turn = search in
+    let counted : Counted = search in
     let n = counted .before .args .t1 in
     let l = turn .loop in
     let e : wrongVolume n (l .k) ≡ false = sym (tested (c .before)) ∙ c .if1 .left in
@@ -82,8 +82,8 @@ loop-again c =
 
 returns-2 : tie.Need-returns-2 Inv-loop μ-loop
 returns-2 c =
-    let counted : Counted = search in
     let turn : Turn = search in
+    let counted : Counted = search in
     let e : turn .loop .k ≡ counted .count-in .result = omega arith in
     sym (turn .loop .inv .2) ∙ rw e (found counted)
 

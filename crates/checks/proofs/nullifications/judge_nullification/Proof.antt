@@ -19,8 +19,8 @@ every-gate-closed-requires c κs = search needs
 returns : tie.Need-returns
 unfolding pairRules
 returns c =
-    let start : tie.Start = search in
     let time : tie.After-clock-of = search in
+    let start : tie.Start = search in
     answered _ (Answers.met (sym (gates-test (start .args .b) (time .clock-of .ensures) (c .before .every-gate-closed .ensures)) ∙ c .if1 .taken))
 
 accounts-wrong-requires : tie.Need-accounts-wrong-requires
@@ -29,9 +29,9 @@ accounts-wrong-requires c κs = search needs
 returns-2 : tie.Need-returns-2
 unfolding pairRules
 returns-2 c =
-    let start : tie.Start = search in
-    let time : tie.After-clock-of = search in
     let some : tie.Else1 = search in
+    let time : tie.After-clock-of = search in
+    let start : tie.Start = search in
     answered _
     (Answers.passed (sym (gates-test (start .args .b) (time .clock-of .ensures) (some .before .every-gate-closed .ensures)) ∙ some .if1 .left)
     (Answers.met (sym (c .before .accounts-wrong .ensures) ∙ c .if2 .taken)))
@@ -51,10 +51,10 @@ cast-if3-3 c = search needs
 returns-3 : tie.Need-returns-3
 unfolding pairRules
 returns-3 c =
-    let start : tie.Start = search in
-    let time : tie.After-clock-of = search in
-    let some : tie.Else1 = search in
     let paired : tie.Else2 = search in
+    let some : tie.Else1 = search in
+    let time : tie.After-clock-of = search in
+    let start : tie.Start = search in
     let s = start .args .b .setup in
     answered _
     (Answers.passed (sym (gates-test (start .args .b) (time .clock-of .ensures) (some .before .every-gate-closed .ensures)) ∙ some .if1 .left)
@@ -64,10 +64,10 @@ returns-3 c =
 returns-4 : tie.Need-returns-4
 unfolding pairRules
 returns-4 c =
-    let start : tie.Start = search in
-    let time : tie.After-clock-of = search in
-    let some : tie.Else1 = search in
     let paired : tie.Else2 = search in
+    let some : tie.Else1 = search in
+    let time : tie.After-clock-of = search in
+    let start : tie.Start = search in
     let s = start .args .b .setup in
     answered _
     (Answers.passed (sym (gates-test (start .args .b) (time .clock-of .ensures) (some .before .every-gate-closed .ensures)) ∙ some .if1 .left)
