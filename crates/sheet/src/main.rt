@@ -136,6 +136,24 @@ fn print_totals(b: Book, held: &[u32], side1: &[i32], side2: &[i32], out: &mut [
     }
 }
 
+// What comes after the first line: the messages, the totals and the end.
+fn print_rest(
+    start: Progress,
+    bytes: &mut [u8],
+    held: &mut [u32],
+    side1: &mut [i32],
+    side2: &mut [i32],
+    out: &mut [u8],
+)
+    requires { ⌜ start .kept ≤ length (now bytes) ⌝ }
+{
+    let end = print_messages(start, bytes, held, side1, side2, out);
+    let after = end.book;
+    print_totals(after, held, side1, side2, out);
+    let written = lines::put_end_line(out, 0, end.seen);
+    print(out, written);
+}
+
 fn print_sheet(
     bytes: &mut [u8],
     have: usize,
@@ -158,11 +176,7 @@ fn print_sheet(
         kept: input::keep(bytes, begun.used, have),
         book: b,
     };
-    let end = print_messages(start, bytes, held, side1, side2, out);
-    let after = end.book;
-    print_totals(after, held, side1, side2, out);
-    let written = lines::put_end_line(out, 0, end.seen);
-    print(out, written);
+    print_rest(start, bytes, held, side1, side2, out);
 }
 
 fn main() {

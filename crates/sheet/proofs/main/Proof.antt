@@ -44,8 +44,10 @@ array-borrow-prefix-places1 c = search needs
 
 slice-aggregate-print-sheet-3 : tie.Need-slice-aggregate-print-sheet-3
 slice-aggregate-print-sheet-3 c =
-    let lent = c .before .before .before .lent-for in
-    let side = c .before .before .before .before .before .before .before .before .before .places in
+    let asked : tie.After-lent-for = search in
+    let made : tie.After-places = search in
+    let lent = asked .lent-for in
+    let side = made .places in
     sym (length-take-le (lent .result) (side .result) (omega (arith, lent .ensures .1, side .ensures)))
 
 array-borrow-prefix-places2 : tie.Need-array-borrow-prefix-places2
@@ -53,8 +55,10 @@ array-borrow-prefix-places2 c = search needs
 
 slice-aggregate-print-sheet-4 : tie.Need-slice-aggregate-print-sheet-4
 slice-aggregate-print-sheet-4 c =
-    let lent = c .before .before .before .before .lent-for in
-    let side = c .before .before .before .before .before .before .before .before .before .places2 in
+    let asked : tie.After-lent-for = search in
+    let made : tie.After-places2 = search in
+    let lent = asked .lent-for in
+    let side = made .places2 in
     sym (length-take-le (lent .result) (side .result) (omega (arith, lent .ensures .1, side .ensures)))
 
 slice-aggregate-print-sheet-5 : tie.Need-slice-aggregate-print-sheet-5

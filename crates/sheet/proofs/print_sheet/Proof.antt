@@ -15,8 +15,8 @@ slice-reshare-prefix-begin c = search needs
 
 slice-aggregate-begin : tie.Need-slice-aggregate-begin
 slice-aggregate-begin c =
-    let a = c .before .before .before .before .args in
-    sym (length-take-le (a .have) (now (a .bytes)) (c .before .before .before .before .pre))
+    let start : tie.Start = search in
+    sym (length-take-le (start .args .have) (now (start .args .bytes)) (start .pre))
 
 begin-requires : tie.Need-begin-requires
 begin-requires c κs = search needs
@@ -45,37 +45,34 @@ returns c = search needs
 keep-requires : tie.Need-keep-requires
 keep-requires c κs = search needs
 
-print-messages-requires : tie.Need-print-messages-requires
-print-messages-requires c κs =
-    let a = c .before .before .before .before .before .before .before .before .before .before .before .before .before .before .before .before .before .before .before .before .before .before .before .before .before .before .before .before .before .args in
-    let left = c .before .before .before .before .before .before .before .keep in
-    let used = c .before .before .before .before .before .before .before .before .before .before .before .before .before .before .before .before .before .before .before .before .begin .result .used in
-    omega (arith, left .ensures .1, kept-fits used (a .have) (now (a .bytes)), ap length (left .ensures .0) ∙ length-sets (now (a .bytes)) 0 (keptOf used (a .have) (now (a .bytes))))
-
-print-totals-requires : tie.Need-print-totals-requires
-print-totals-requires c κs = search needs
-
-put-end-line-requires : tie.Need-put-end-line-requires
-put-end-line-requires c κs = search needs
-
-print-requires-2 : tie.Need-print-requires-2
-print-requires-2 c κs = search needs
+print-rest-requires : tie.Need-print-rest-requires
+print-rest-requires c κs =
+    let left : tie.After-keep = search in
+    let begun : tie.After-begin = search in
+    let start : tie.Start = search in
+    let a = start .args in
+    let used = begun .begin .result .used in
+    omega (
+      arith,
+      left .keep .ensures .1,
+      kept-fits used (a .have) (now (a .bytes)),
+      ap length (left .keep .ensures .0) ∙ length-sets (now (a .bytes)) 0 (keptOf used (a .have) (now (a .bytes))),
+    )
 
 same-length-6 : tie.Need-same-length-6
 same-length-6 c = search needs
 
 same-length-7 : tie.Need-same-length-7
-same-length-7 c = c .before .before .before .before .before .before .before .before .before .before .before .before .before .before .before .before .before .before .before .before .before .before .print-messages .kept .1 .1 .0 ∙ c .before .before .before .before .before .before .before .before .before .before .before .before .before .before .before .before .before .before .before .before .before .before .before .before .before .before .before .before .before .before .before .before .before .before .before .before .before .before .before .before .before .before .before .begin .kept .1 .0
+same-length-7 c = search needs
 
 same-length-8 : tie.Need-same-length-8
-same-length-8 c = c .before .before .before .before .before .before .before .before .before .before .before .before .before .before .before .before .before .before .before .before .before .before .print-messages .kept .1 .1 .1 .0 ∙ c .before .before .before .before .before .before .before .before .before .before .before .before .before .before .before .before .before .before .before .before .before .before .before .before .before .before .before .before .before .before .before .before .before .before .before .before .before .before .before .before .before .before .before .begin .kept .1 .1 .0
+same-length-8 c = search needs
 
 same-length-9 : tie.Need-same-length-9
-same-length-9 c = c .before .before .before .before .before .before .before .before .before .before .before .before .before .before .before .before .before .before .before .before .before .before .print-messages .kept .1 .1 .1 .1 .0 ∙ c .before .before .before .before .before .before .before .before .before .before .before .before .before .before .before .before .before .before .before .before .before .before .before .before .before .before .before .before .before .before .before .before .before .before .before .before .before .before .before .before .before .before .before .begin .kept .1 .1 .1 .0
+same-length-9 c = search needs
 
 same-length-10 : tie.Need-same-length-10
-same-length-10 c =
-    c .before .before .before .before .put-end-line .kept .0 ∙ c .before .before .before .before .before .before .before .before .print-totals .kept .1 .1 .1 .1 .0 ∙ c .before .before .before .before .before .before .before .before .before .before .before .before .before .before .before .before .before .before .before .before .before .before .print-messages .kept .1 .1 .1 .1 .1 .0 ∙ c .before .before .before .before .before .before .before .before .before .before .before .before .before .before .before .before .before .before .before .before .before .before .before .before .before .before .before .before .before .before .before .before .before .before .before .before .before .before .before .before .before .before .before .begin .kept .1 .1 .1 .1 .0
+same-length-10 c = search needs
 
 returns-2 : tie.Need-returns-2
 returns-2 c = search needs
@@ -95,10 +92,7 @@ print-sheet-spec =
     same-length-5
     returns
     keep-requires
-    print-messages-requires
-    print-totals-requires
-    put-end-line-requires
-    print-requires-2
+    print-rest-requires
     same-length-6
     same-length-7
     same-length-8

@@ -1,6 +1,6 @@
 -- Nothing has to hold from day to day but the length of the buffer.
 use borrow.Author.Needs.{needs}
-use mathlib.Core.Path.{_≡_, refl, _∙_}
+use mathlib.Core.Path.{_≡_, refl}
 use Prim.Native.Nat.{_-_}
 use lib.ListN.{length}
 use Rattle.sheet.proofs.print_totals.Statement.{statement}

@@ -16,7 +16,9 @@ slice-reshare-prefix-turn : tie.Need-slice-reshare-prefix-turn
 slice-reshare-prefix-turn c = search needs
 
 slice-aggregate-turn : tie.Need-slice-aggregate-turn
-slice-aggregate-turn c = sym (length-take-le (c .before .before .before .before .read-on .result) (c .before .before .before .before .read-on .last .0) (c .before .before .before .before .read-on .ensures))
+slice-aggregate-turn c =
+    let read : tie.After-read-on = search in
+    sym (length-take-le (read .read-on .result) (read .read-on .last .0) (read .read-on .ensures))
 
 turn-requires : tie.Need-turn-requires
 turn-requires c κs = search needs
@@ -47,10 +49,13 @@ same-length-6 c = search needs
 
 returns : tie.Need-returns
 returns c =
-    let read = c .before .before .before .before .before .before .before .before .before .before .before .before .before .before .before .before .before .before .before .before .before .before .before .before .before .read-on in
-    let left = c .before .before .keep in
-    let used = c .before .before .before .before .before .before .before .before .before .before .before .before .before .before .before .turn .result .used in
-    omega (arith, left .ensures .1, kept-fits used (read .result) (read .last .0), ap length (left .ensures .0) ∙ length-sets (read .last .0) 0 (keptOf used (read .result) (read .last .0)))
+    let left : tie.After-keep = search in
+    let told : tie.After-turn = search in
+    let read : tie.After-read-on = search in
+    let used = told .turn .result .used in
+    let have = read .read-on .result in
+    let bytes = read .read-on .last .0 in
+    omega (arith, left .keep .ensures .1, kept-fits used have bytes, ap length (left .keep .ensures .0) ∙ length-sets bytes 0 (keptOf used have bytes))
 
 pub take-turn-spec : {M : Type 1} → statement M
 take-turn-spec =
