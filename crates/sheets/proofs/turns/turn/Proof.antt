@@ -30,7 +30,7 @@ count-told-requires c κs = search needs
 wrapping-add-u64-requires : tie.Need-wrapping-add-u64-requires
 wrapping-add-u64-requires c κs = search needs
 
--- what is known once the answers to be told are counted
+-- what is known once the answers to be told are counted: the run and the start by their places, all else by these
 module _ (k : tie.After-count-told) where
   abbrev ran : tie.After-apply-all
   ran = k .before .before .before .before .before .before .before .before .before .before
@@ -56,10 +56,14 @@ module _ (k : tie.After-count-told) where
       (k .before .before .last-of .result) (k .count-told .result) (k .before .is-kept .result) (k .before .before .last-of .ensures) (k .before .is-kept .ensures) (k .count-told .ensures)
 
 slice-reshare-prefix-put-message-lines : tie.Need-slice-reshare-prefix-put-message-lines
-slice-reshare-prefix-put-message-lines c = fits-told (c .before .before)
+slice-reshare-prefix-put-message-lines c =
+    let counted : tie.After-count-told = search in
+    fits-told counted
 
 slice-aggregate-put-message-lines : tie.Need-slice-aggregate-put-message-lines
-slice-aggregate-put-message-lines c = sym (length-take-le (c .before .before .before .count-told .result) _ (fits-told (c .before .before .before)))
+slice-aggregate-put-message-lines c =
+    let counted : tie.After-count-told = search in
+    sym (length-take-le (counted .count-told .result) _ (fits-told counted))
 
 put-message-lines-requires : tie.Need-put-message-lines-requires
 put-message-lines-requires c κs = search needs
@@ -84,13 +88,16 @@ same-length-5 c = search needs
 
 returns : tie.Need-returns
 returns c =
-    let k = c .before .before .before .before .before .before .before .before .before in
+    let put : tie.After-put-message-lines = search in
+    let numbered : tie.After-wrapping-add-u64 = search in
+    let k : tie.After-count-told = search in
     let e = ran k .apply-all .ensures in
     let a = start k .args in
-    let p = c .before .before .before .before .before .put-message-lines in
+    let p = put .put-message-lines in
+    let first = numbered .wrapping-add-u64 in
     let t = turn-told (a .b) (a .ended) (length (bytes k)) (runAnswer (before k)) (lent k) _ (run k) (ran k .apply-all .result) (few-answers (length (lent k)) (before k) (bytes k)) (e .0) (e .4)
     (k .before .before .last-of .result) (k .count-told .result) (k .before .is-kept .result) (k .before .before .last-of .ensures) (k .before .is-kept .ensures) (k .count-told .ensures)
-    (a .seen) (now (a .out)) (c .before .before .before .before .before .before .before .before .wrapping-add-u64 .result) (p .result) (c .wrapping-add-u642 .result) _ (c .before .before .before .before .before .before .before .before .wrapping-add-u64 .ensures) (p .ensures .0) (p .ensures .1) (c .wrapping-add-u642 .ensures) in
+    (a .seen) (now (a .out)) (first .result) (p .result) (c .wrapping-add-u642 .result) _ (first .ensures) (p .ensures .0) (p .ensures .1) (c .wrapping-add-u642 .ensures) in
     (t .0, e .1, e .2, e .3, e .4, t .1)
 
 pub turn-spec : {M : Type 1} → statement M
