@@ -43,7 +43,9 @@ cast-place c = search needs
 
 sub-volumes : tie.Need-sub-volumes Inv-loop μ-loop
 sub-volumes c =
-    let x = getD (c .before .before .before .before .before .before .before .args .t1 .entries) (c .before .before .before .before .before .loop .k - 1) noEntry .period in
+    let turn : tie.At-loop Inv-loop μ-loop = search in
+    let start : tie.Start Inv-loop μ-loop = search in
+    let x = getD (start .args .t1 .entries) (turn .loop .k - 1) noEntry .period in
     omega (arith, ltb-true 0 x (and-left (ltb 0 x) (leb x 50) (c .if1 .taken)))
 
 mul-volumes : tie.Need-mul-volumes Inv-loop μ-loop
@@ -51,7 +53,9 @@ mul-volumes c = search needs
 
 array-set-from-volumes : tie.Need-array-set-from-volumes Inv-loop μ-loop
 array-set-from-volumes c =
-    let x = getD (c .before .before .before .before .before .before .before .args .t1 .entries) (c .before .before .before .before .before .loop .k - 1) noEntry .period in
+    let turn : tie.At-loop Inv-loop μ-loop = search in
+    let start : tie.Start Inv-loop μ-loop = search in
+    let x = getD (start .args .t1 .entries) (turn .loop .k - 1) noEntry .period in
     omega (arith, leb-true x 50 (and-right (ltb 0 x) (leb x 50) (c .if1 .taken)), ltb-true 0 x (and-left (ltb 0 x) (leb x 50) (c .if1 .taken)))
 
 loop-less : tie.Need-loop-less Inv-loop μ-loop
@@ -59,8 +63,10 @@ loop-less c = search needs
 
 loop-again : tie.Need-loop-again Inv-loop μ-loop
 loop-again c =
-    let a = c .before .before .before .before .before .before .before .args .t1 in
-    let l = c .before .before .before .before .before .loop in (
+    let turn : tie.At-loop Inv-loop μ-loop = search in
+    let start : tie.Start Inv-loop μ-loop = search in
+    let a = start .args .t1 in
+    let l = turn .loop in (
       omega arith,
       omega arith,
       rw (toZ-ofZ {w = w32} (record { sfits = c .before .struct-told .given .1 .0 .1 }), l .inv .2)
@@ -72,14 +78,17 @@ loop-less-2 c = search needs
 
 loop-again-2 : tie.Need-loop-again-2 Inv-loop μ-loop
 loop-again-2 c =
-    let a = c .before .before .before .before .before .before .before .args .t1 in
-    let l = c .before .before .before .before .before .loop in
+    let turn : tie.At-loop Inv-loop μ-loop = search in
+    let start : tie.Start Inv-loop μ-loop = search in
+    let a = start .args .t1 in
+    let l = turn .loop in
     (omega arith, omega arith, l .inv .2 ∙ given-passed (a .count) (a .entries) (l .k - 1) (l .k) (omega arith) (omega arith) (c .if1 .left))
 
 returns : tie.Need-returns Inv-loop μ-loop
 unfolding notificationOf
 returns c =
-    let a = c .before .before .before .args .t1 in
+    let start : tie.Start Inv-loop μ-loop = search in
+    let a = start .args .t1 in
     let l = c .before .loop in
     let z : l .k ≡ 0 = omega arith in
     l .inv .2 ∙ rw z (given-all (a .count) (a .entries))

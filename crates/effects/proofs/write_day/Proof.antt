@@ -18,26 +18,30 @@ add-day c = search needs
 
 returns : tie.Need-returns
 returns c =
-    let a = c .before .before .args in
-    day-early (timeOf (a .c)) (a .c .days) (a .slot) (a .d) (a .first) (a .until) (now (a .volumes)) (length-build (a .c .days) _) (c .before .before .pre .day-inside) (now (a .side)) (c .if1 .taken)
+    let start : tie.Start = search in
+    let a = start .args in
+    day-early (timeOf (a .c)) (a .c .days) (a .slot) (a .d) (a .first) (a .until) (now (a .volumes)) (length-build (a .c .days) _) (start .pre .day-inside) (now (a .side)) (c .if1 .taken)
 
 cast-base : tie.Need-cast-base
 cast-base c = search needs
 
 mul-base : tie.Need-mul-base
 mul-base c =
-    let a = c .before .before .before .args in
-    omega (arith, place-small (a .slot) (a .c .days) (c .before .before .before .pre .slot-few) (omega arith))
+    let start : tie.Start = search in
+    let a = start .args in
+    omega (arith, place-small (a .slot) (a .c .days) (start .pre .slot-few) (omega arith))
 
 add-base : tie.Need-add-base
 add-base c =
-    let a = c .before .before .before .args in
-    omega (arith, place-small (a .slot) (a .c .days) (c .before .before .before .pre .slot-few) (omega arith))
+    let start : tie.Start = search in
+    let a = start .args in
+    omega (arith, place-small (a .slot) (a .c .days) (start .pre .slot-few) (omega arith))
 
 mul-base-2 : tie.Need-mul-base-2
 mul-base-2 c =
-    let a = c .before .before .before .args in
-    omega (arith, place-small (a .slot) (a .c .days) (c .before .before .before .pre .slot-few) (omega arith))
+    let start : tie.Start = search in
+    let a = start .args in
+    omega (arith, place-small (a .slot) (a .c .days) (start .pre .slot-few) (omega arith))
 
 closed-on-requires : tie.Need-closed-on-requires
 closed-on-requires c κs = search needs
@@ -50,8 +54,10 @@ cast-periods c = search needs
 
 add-store-run : tie.Need-add-store-run
 add-store-run c =
-    let a = c .before .before .before .before .before .before .before .args in
-    omega (arith, place-small (a .slot) (a .c .days) (c .before .before .before .before .before .before .before .pre .slot-few) (omega arith), c .before .before .before .closed-on .ensures, periods-le (timeOf (a .c) .codes) (a .d))
+    let closed-on : tie.After-closed-on = search in
+    let start : tie.Start = search in
+    let a = start .args in
+    omega (arith, place-small (a .slot) (a .c .days) (start .pre .slot-few) (omega arith), closed-on .closed-on .ensures, periods-le (timeOf (a .c) .codes) (a .d))
 
 mul-store-run : tie.Need-mul-store-run
 mul-store-run c = search needs
@@ -64,8 +70,10 @@ part-store-run-start c = search needs
 
 part-store-run-end : tie.Need-part-store-run-end
 part-store-run-end c =
-    let a = c .before .before .before .before .before .before .before .args in
-    omega (arith, c .before .before .before .before .before .before .before .pre .all-given, c .before .before .periods-at .ensures, periods-le (timeOf (a .c) .codes) (a .d))
+    let periods-at : tie.After-periods-at = search in
+    let start : tie.Start = search in
+    let a = start .args in
+    omega (arith, start .pre .all-given, periods-at .periods-at .ensures, periods-le (timeOf (a .c) .codes) (a .d))
 
 store-run-requires : tie.Need-store-run-requires
 store-run-requires c κs = search needs
@@ -75,16 +83,22 @@ same-length c = search needs
 
 returns-2 : tie.Need-returns-2
 returns-2 c =
-    let s = c .before .before .before .before .before .before .before .before .before .before in
+    let within : tie.Then2 = search in
+    let periods-at : tie.After-periods-at = search in
+    let closed-on : tie.After-closed-on = search in
+    let from-first : tie.Else1 = search in
+    let s : tie.Start = search in
     let a = s .args in
     c .before .store-run .ensures
-    ∙ rw (c .before .before .before .before .before .before .closed-on .ensures, c .before .before .before .before .before .periods-at .ensures)
-    (day-stored (timeOf (a .c)) (a .c .days) (a .slot) (a .d) (a .first) (a .until) (now (a .volumes)) (length-build (a .c .days) _) (s .pre .day-inside) (now (a .side)) (c .before .before .before .before .before .before .before .before .if1 .left) (c .before .before .before .before .if2 .taken) (s .pre .all-given))
+    ∙ rw (closed-on .closed-on .ensures, periods-at .periods-at .ensures)
+    (day-stored (timeOf (a .c)) (a .c .days) (a .slot) (a .d) (a .first) (a .until) (now (a .volumes)) (length-build (a .c .days) _) (s .pre .day-inside) (now (a .side)) (from-first .if1 .left) (within .if2 .taken) (s .pre .all-given))
 
 add-blank-run : tie.Need-add-blank-run
 add-blank-run c =
-    let a = c .before .before .before .before .before .before .before .args in
-    omega (arith, place-small (a .slot) (a .c .days) (c .before .before .before .before .before .before .before .pre .slot-few) (omega arith), c .before .before .before .closed-on .ensures, periods-le (timeOf (a .c) .codes) (a .d))
+    let closed-on : tie.After-closed-on = search in
+    let start : tie.Start = search in
+    let a = start .args in
+    omega (arith, place-small (a .slot) (a .c .days) (start .pre .slot-few) (omega arith), closed-on .closed-on .ensures, periods-le (timeOf (a .c) .codes) (a .d))
 
 sub-blank-run : tie.Need-sub-blank-run
 sub-blank-run c = search needs
@@ -97,11 +111,15 @@ same-length-2 c = search needs
 
 returns-3 : tie.Need-returns-3
 returns-3 c =
-    let s = c .before .before .before .before .before .before .before .before .before in
+    let past : tie.Else2 = search in
+    let periods-at : tie.After-periods-at = search in
+    let closed-on : tie.After-closed-on = search in
+    let from-first : tie.Else1 = search in
+    let s : tie.Start = search in
     let a = s .args in
     c .before .blank-run .ensures
-    ∙ rw (c .before .before .before .before .before .closed-on .ensures, c .before .before .before .before .periods-at .ensures)
-    (day-blanked (timeOf (a .c)) (a .c .days) (a .slot) (a .d) (a .first) (a .until) (now (a .volumes)) (length-build (a .c .days) _) (s .pre .day-inside) (now (a .side)) (c .before .before .before .before .before .before .before .if1 .left) (c .before .before .before .if2 .left))
+    ∙ rw (closed-on .closed-on .ensures, periods-at .periods-at .ensures)
+    (day-blanked (timeOf (a .c)) (a .c .days) (a .slot) (a .d) (a .first) (a .until) (now (a .volumes)) (length-build (a .c .days) _) (s .pre .day-inside) (now (a .side)) (from-first .if1 .left) (past .if2 .left))
 
 pub write-day-spec : {M : Type 1} → statement M
 write-day-spec =
