@@ -26,7 +26,7 @@ module _ (b : Book contracts) (i account D : ℕ) where
   asking = answer (askingRules b i account)
 
   abbrev pub periodsOn : ℕ
-  periodsOn = periodsAt (b .time .codes) (dayOf (b .time) D)
+  periodsOn = periodsAt (b .setting .time .codes) (dayOf (b .setting .time) D)
 
   module _ (cases firsts seconds : ℕ) where
     abbrev pub dayAnswer : ℕ
@@ -37,7 +37,7 @@ module _ (b : Book contracts) (i account D : ℕ) where
     noRoom = ltb cases periodsOn || ltb firsts periodsOn || ltb seconds periodsOn
 
     abbrev later : List Rule
-    later = 16 when not (hasDay (b .time) D) else 24 when noRoom else done
+    later = 16 when not (hasDay (b .setting .time) D) else 24 when noRoom else done
 
     pub day-earlier : asking ≢ 0 → asking ≡ dayAnswer
     unfolding askingRules dayMarkRules
@@ -47,15 +47,15 @@ module _ (b : Book contracts) (i account D : ℕ) where
     unfolding askingRules dayMarkRules
     day-later e = later-answers (askingRules b i account) later refl e
 
-    pub day-none : asking ≡ 0 → hasDay (b .time) D ≡ false → 16 ≡ dayAnswer
+    pub day-none : asking ≡ 0 → hasDay (b .setting .time) D ≡ false → 16 ≡ dayAnswer
     unfolding answer
     day-none e h = sym (day-later e ∙ rw h)
 
-    pub day-no-room : asking ≡ 0 → hasDay (b .time) D ≡ true → noRoom ≡ true → 24 ≡ dayAnswer
+    pub day-no-room : asking ≡ 0 → hasDay (b .setting .time) D ≡ true → noRoom ≡ true → 24 ≡ dayAnswer
     unfolding answer
     day-no-room e h r = sym (day-later e ∙ rw (h, r))
 
-    pub day-done : asking ≡ 0 → hasDay (b .time) D ≡ true → noRoom ≡ false → 0 ≡ dayAnswer
+    pub day-done : asking ≡ 0 → hasDay (b .setting .time) D ≡ true → noRoom ≡ false → 0 ≡ dayAnswer
     unfolding answer
     day-done e h r = sym (day-later e ∙ rw (h, r))
 
@@ -75,9 +75,9 @@ module _ {A : Type 0} (value : Bar → A) (b : Book contracts) (i account D : �
   day-refused refusal n = rw (ne-eqb refusal 0 n)
 
   -- where the bars written are the marks of the day's periods
-  pub day-written : (bars : ℕ → Bar) (d : A) → ((p : ℕ) → p < periodsAt (b .time .codes) (dayOf (b .time) D) → bars p ≡ barFor (mark b i account D (suc p)))
-      → onFront (periodsAt (b .time .codes) (dayOf (b .time) D)) (λ (p : ℕ) (old : A). value (bars p)) buffer ≡ dayMarked value b i account D 0 buffer
+  pub day-written : (bars : ℕ → Bar) (d : A) → ((p : ℕ) → p < periodsAt (b .setting .time .codes) (dayOf (b .setting .time) D) → bars p ≡ barFor (mark b i account D (suc p)))
+      → onFront (periodsAt (b .setting .time .codes) (dayOf (b .setting .time) D)) (λ (p : ℕ) (old : A). value (bars p)) buffer ≡ dayMarked value b i account D 0 buffer
   unfolding dayMarked
   day-written bars d e =
-      front-same (periodsAt (b .time .codes) (dayOf (b .time) D)) (λ (p : ℕ) (old : A). value (bars p)) (λ (p : ℕ) (old : A). value (barFor (mark b i account D (suc p)))) buffer d
+      front-same (periodsAt (b .setting .time .codes) (dayOf (b .setting .time) D)) (λ (p : ℕ) (old : A). value (bars p)) (λ (p : ℕ) (old : A). value (barFor (mark b i account D (suc p)))) buffer d
       (λ p l. ap value (e p l))

@@ -21,7 +21,7 @@ use Rattle.shown.specs.declared.Bar.the-variants.{Blank}
 
 module _ (b : Book contracts) (i account : ℕ) where
   abbrev pub rowFor : Authorisation
-  rowFor = rowAt (b .rows) (originatorOf i)
+  rowFor = rowAt (b .setting .rows) (originatorOf i)
 
   -- what the answer 0 to the rules that speak of no day has shown
   pub record Asks : Type 0 where
@@ -43,17 +43,17 @@ module _ (b : Book contracts) (i account : ℕ) where
 
     pub mark-earlier : answer (askingRules b i account) ≢ 0 → answer (askingRules b i account) ≡ markAnswer
     unfolding askingRules Meaning.markRules
-    mark-earlier n = sym (earlier-answers (askingRules b i account) (16 when not (isPeriod (b .time) D period) else done) n)
+    mark-earlier n = sym (earlier-answers (askingRules b i account) (16 when not (isPeriod (b .setting .time) D period) else done) n)
 
-    pub mark-later : answer (askingRules b i account) ≡ 0 → markAnswer ≡ answer (16 when not (isPeriod (b .time) D period) else done)
+    pub mark-later : answer (askingRules b i account) ≡ 0 → markAnswer ≡ answer (16 when not (isPeriod (b .setting .time) D period) else done)
     unfolding askingRules Meaning.markRules
-    mark-later e = later-answers (askingRules b i account) (16 when not (isPeriod (b .time) D period) else done) refl e
+    mark-later e = later-answers (askingRules b i account) (16 when not (isPeriod (b .setting .time) D period) else done) refl e
 
-    pub mark-no-period : answer (askingRules b i account) ≡ 0 → isPeriod (b .time) D period ≡ false → 16 ≡ markAnswer
+    pub mark-no-period : answer (askingRules b i account) ≡ 0 → isPeriod (b .setting .time) D period ≡ false → 16 ≡ markAnswer
     unfolding answer
     mark-no-period e p = sym (mark-later e ∙ rw p)
 
-    pub mark-done : answer (askingRules b i account) ≡ 0 → isPeriod (b .time) D period ≡ true → 0 ≡ markAnswer
+    pub mark-done : answer (askingRules b i account) ≡ 0 → isPeriod (b .setting .time) D period ≡ true → 0 ≡ markAnswer
     unfolding answer
     mark-done e p = sym (mark-later e ∙ rw p)
 
@@ -73,7 +73,7 @@ module _ (b : Book contracts) (i account : ℕ) where
     pub mark-answered : markAnswer ≡ 0
         → barFor (Meaning.mark b i account D period)
         ≡ barSeen rowFor account
-        (at contracts (days (b .time)) (b .ledger .side1) (slotOf (b .ledger .held) i) (dayOf (b .time) D) period)
-        (at contracts (days (b .time)) (b .ledger .side2) (slotOf (b .ledger .held) i) (dayOf (b .time) D) period)
+        (at contracts (days (b .setting .time)) (b .ledger .side1) (slotOf (b .ledger .held) i) (dayOf (b .setting .time) D) period)
+        (at contracts (days (b .setting .time)) (b .ledger .side2) (slotOf (b .ledger .held) i) (dayOf (b .setting .time) D) period)
     unfolding Meaning.mark barSeen
     mark-answered e = rw (Bars.seen-answered b i D period account e)

@@ -1,17 +1,17 @@
 -- Document 01, "Matching, totals, marks": the mark of a period, and the marks of a whole day.
-use mathlib.Core.Bool.{not, _&&_, _||_}
-use mathlib.Core.List.{List}
+use mathlib.Core.Bool.{not, _||_}
+use mathlib.Core.List.{List, _++_}
 use Prim.Native.Nat.{ℕ, suc, _+_}
 use lib.IntN.{ℤ}
 use lib.ListN.{getD}
 use Rattle.words.specs.Tests.{if_then_else_, _<?_, _=?_}
 use Rattle.words.specs.Lists.{onFront}
 use Rattle.words.specs.Rules.{Rule, _when_else_, done, answer}
-use Rattle.meaning.specs.Time.{periodsAt, dayOf, hasDay}
-use Rattle.meaning.specs.Authorisations.{Authorisation, rowAt, inPair}
-use Rattle.meaning.specs.Ledgers.{contracts, theMark, originatorOf, isHeld}
-use Rattle.meaning.specs.Books.{Book, hasAccount}
-use Rattle.meaning.specs.Soundness.{sound}
+use Rattle.meaning.specs.Time.{periodsOn, hasDay}
+use Rattle.meaning.specs.Authorisations.{Authorisation}
+use Rattle.meaning.specs.Ledgers.{contracts, theMark}
+use Rattle.meaning.specs.Books.{Book}
+use Rattle.meaning.specs.Refusals.{asked}
 use Rattle.meaning.specs.Bars as Meaning
 use Rattle.shown.specs.Figures.{barFor, barSeen}
 use Rattle.shown.specs.declared.Bar.{Bar}
@@ -32,28 +32,22 @@ marked b i account D period =
 
 -- the rules of a mark that speak of no day: 1, 25, 15
 unfoldable pub askingRules : Book contracts → ℕ → ℕ → List Rule
-askingRules b i account =
-    1 when not (sound b) else
-    25 when not (isHeld (b .ledger .held) i) else
-    15 when not (hasAccount b account && inPair (rowAt (b .rows) (originatorOf i)) account) else
-    done
+askingRules b i account = asked b (Meaning.askerRules b i account)
 
 -- those of a mark for a day instead of a period; and 24 where one of the three buffers, by its length, has no room for the day
 unfoldable pub dayMarkRules : Book contracts → ℕ → ℕ → ℕ → ℕ → ℕ → ℕ → List Rule
 dayMarkRules b i account D cases firsts seconds =
-    let periods : ℕ = periodsAt (b .time .codes) (dayOf (b .time) D) in
-    1 when not (sound b) else
-    25 when not (isHeld (b .ledger .held) i) else
-    15 when not (hasAccount b account && inPair (rowAt (b .rows) (originatorOf i)) account) else
-    16 when not (hasDay (b .time) D) else
+    let periods : ℕ = periodsOn (b .setting .time) D in
+    asked b (Meaning.askerRules b i account ++ (
+    16 when not (hasDay (b .setting .time) D) else
     24 when cases <? periods || firsts <? periods || seconds <? periods else
-    done
+    done))
 
 -- a buffer after the question: with the answer 0 place p holds a value of the mark of period p + 1, and with a refusal it is as it came
 unfoldable pub dayMarked : {A : Type 0} → (Bar → A) → Book contracts → ℕ → ℕ → ℕ → ℕ → List A → List A
 dayMarked {A} value b i account D refusal buffer =
     if refusal =? 0
-    then onFront (periodsAt (b .time .codes) (dayOf (b .time) D)) (λ (p : ℕ) (old : A). value (barFor (Meaning.mark b i account D (suc p)))) buffer
+    then onFront (periodsOn (b .setting .time) D) (λ (p : ℕ) (old : A). value (barFor (Meaning.mark b i account D (suc p)))) buffer
     else buffer
 
 -- what the two sides hold in the place p past `start`, as an account of the pair sees it

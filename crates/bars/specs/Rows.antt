@@ -15,9 +15,9 @@ use Rattle.bars.specs.declared.RowPlace.{RowPlace}
 unfoldable pub rowPlace : Book contracts → ℕ → ℕ → ℕ → RowPlace
 rowPlace b i D side =
     let number = answer (rowRules b i D side) in
-    let d = dayOf (b .time) D in
+    let d = dayOf (b .setting .time) D in
     if number =? 0
-    then record { answer = 0; start = index (days (b .time)) (slotOf (b .ledger .held) i) d 1; length = periodsAt (b .time .codes) d }
+    then record { answer = 0; start = index (days (b .setting .time)) (slotOf (b .ledger .held) i) d 1; length = periodsAt (b .setting .time .codes) d }
     else record { answer = number; start = 0; length = 0 }
 
 -- "side 1's or side 2's own table"

@@ -19,7 +19,7 @@ use Rattle.meaning.proofs.SetupRules.{Opens, opens}
 use Rattle.setups.specs.Structs.{codesOf, rowsOf, setupOf}
 use Rattle.clock.specs.declared.Clock.{Clock}
 use Rattle.clock.specs.Structs.{timeOf}
-use Rattle.soundness.specs.Parts.{sideRight}
+use Rattle.soundness.specs.Parts.{below, sideRight}
 use Rattle.book.specs.Structs.{timeIn, bookOf}
 use Rattle.book.specs.declared.Book.{Book}
 
@@ -62,7 +62,7 @@ module _ (b : Book) (held : List ℕ) (side1 side2 : List ℤ) where
       → setupAnswer ≡ 0
       → timeOf c ≡ timeIn b
       → gates ≡ gatesBefore (timeOf c .codes) (b .setup .days)
-      → h ≡ heldRight (b .setup .authorisations) held
+      → h ≡ heldRight (below (b .setup .authorisations)) held
       → s1 ≡ sideRight side1 held c
       → s2 ≡ sideRight side2 held c
       → leb (b .closed) gates && h && s1 && s2 ≡ sound (bookOf b held side1 side2)
@@ -76,6 +76,6 @@ module _ (b : Book) (held : List ℕ) (side1 side2 : List ℤ) where
       rw (eq-eqb setupAnswer 0 e)
       (together
       (ap (leb (b .closed)) (g ∙ ap₂ gatesBefore codes (sym (codes-count b))))
-      (p ∙ ap (λ (n : ℕ). heldRight n held) (sym (rows-count b)))
+      (p ∙ ap (λ (n : ℕ). heldRight (below n) held) (sym (rows-count b)))
       (q ∙ side-table side1 held c few (o .few-slots) (o .side1 ∙ lent) ∙ ap (λ (k : List ℕ). tableRight contracts k held side1) codes)
       (r ∙ side-table side2 held c few (o .few-slots) (o .side2 ∙ lent) ∙ ap (λ (k : List ℕ). tableRight contracts k held side2) codes))

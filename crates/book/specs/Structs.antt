@@ -6,6 +6,7 @@ use lib.IntN.{ℤ}
 use Rattle.words.specs.Tests.{if_then_else_, _<?_}
 use Rattle.meaning.specs.Time.{Time}
 use Rattle.meaning.specs.Authorisations.{Authorisation}
+use Rattle.meaning.specs.Settings.{Setting}
 use Rattle.meaning.specs.Ledgers.{contracts, originatorOf}
 use Rattle.meaning.specs.Books as Meaning
 use Rattle.clock.specs.declared.Clock.{Clock}
@@ -34,7 +35,10 @@ unfoldable pub originRow : ℕ → ℕ → Setups.Authorisation → Setups.Autho
 originRow authorisations zero row = noAuthorisation
 originRow authorisations (suc i) row = if originatorOf i <? authorisations && originatorOf i <? 64 then row else noAuthorisation
 
+-- the setting: all that a call sees beside the lent tables
+abbrev pub settingIn : Book → Setting
+settingIn b = record { time = timeIn b; accounts = b .setup .accounts; rows = rowsIn (b .setup) }
+
 -- a book by value beside its lent tables: held, side 1, side 2
 abbrev pub bookOf : Book → List ℕ → List ℤ → List ℤ → Meaning.Book contracts
-bookOf b held side1 side2 =
-    record { time = timeIn b; accounts = b .setup .accounts; rows = rowsIn (b .setup); ledger = record { held = held; side1 = side1; side2 = side2 } }
+bookOf b held side1 side2 = record { setting = settingIn b; ledger = record { held = held; side1 = side1; side2 = side2 } }

@@ -2,14 +2,15 @@
 -- tables hold.
 use mathlib.Core.Bool.{true}
 use mathlib.Core.List.{List, [], _∷_, _++_}
-use mathlib.Core.Path.{_≡_, refl, sym, ap, _∙_}
+use mathlib.Core.Path.{_≡_, refl, sym, ap, subst, _∙_}
 use Prim.Native.Nat.{ℕ}
 use lib.IntN.{ℤ}
 use lib.ListN.{length}
 use Rattle.words.specs.Rules.{answer}
 use Rattle.words.specs.Runs.{run}
 use Rattle.laws.proofs.Cases.{on}
-use Rattle.meaning.specs.Time.{Time, isPeriod}
+use Rattle.meaning.specs.Time.{isPeriod, periodsOn}
+use Rattle.meaning.specs.Settings.{Setting}
 use Rattle.meaning.specs.Ledgers.{contracts, Side}
 use Rattle.meaning.specs.Messages.{Message, notification, nullification}
 use Rattle.meaning.specs.Books.{openingRules, openedBook}
@@ -19,7 +20,8 @@ use Rattle.meaning.specs.Calls.{Call, gate, message, gateRules}
 use Rattle.meaning.specs.History.{standing, decides, after, eventsOf}
 use Rattle.meaning.specs.PackedCalls.{applied, Run, callsIn, runOn}
 use Rattle.meaning.proofs.Contracts.{contracts-lawful}
-use Rattle.meaning.proofs.History.{after-sound, history, SameBook, after-same}
+use Rattle.meaning.proofs.History.{after-sound, history}
+use Rattle.meaning.proofs.OnlyClock.{run-moves-clock}
 use Rattle.meaning.proofs.PackedCalls.{after-append, run-is-calls, run-sound, run-unsound}
 use Rattle.meaning.proofs.Applied.{unsound-after, applied-is-calls}
 use Rattle.setups.specs.declared.Setup.{Setup}
@@ -38,7 +40,7 @@ use Rattle.calls.specs.declared.Gated.{Gated}
 use Rattle.calls.specs.declared.Notified.{Notified}
 use Rattle.calls.specs.declared.Applied as Structs
 use Rattle.calls.specs.declared.AppliedAll.{AppliedAll}
-use Rattle.calls.proofs.CallLaws.{message-clock, nullification-held}
+use Rattle.calls.proofs.CallLaws.{message-setting, nullification-held}
 use Rattle.calls.proofs.GateLaws.{gated-steps}
 use Rattle.calls.proofs.Promises.{Notifies, Nullifies, Applies, AppliesAll}
 use Rattle.calls.proofs.RunLaws.{holds-book}
@@ -84,18 +86,11 @@ module _ (s : State) where
   gate-leaves r p = ap (λ (x : Gated). bookOf (x .book) (s .held) (s .side1) (s .side2)) p ∙ gated-steps (s .book) (s .held) (s .side1) (s .side2)
 
   -- a message changes the tables alone
-  message-same : (m : Message contracts) → SameBook (whole s) (afterCall (whole s) (message m))
-  unfolding after run
-  message-same m = after-same (whole s) (message m ∷ [])
-
   message-leaves : (m : Message contracts) (h : List ℕ) (l1 l2 : List ℤ) → let w = afterCall (whole s) (message m) in
       h ≡ w .ledger .held → l1 ≡ w .ledger .side1 → l2 ≡ w .ledger .side2 → bookOf (s .book) h l1 l2 ≡ w
   message-leaves m h l1 l2 p q r =
       let w = afterCall (whole s) (message m) in
-      let clock : s .book .closed ≡ w .time .closed = sym (ap (λ (t : Time). t .closed) (message-clock (whole s) m)) in
-      rw (p, q, r)
-      (ap (λ (k : ℕ). bookOf (record { setup = s .book .setup; closed = k }) (w .ledger .held) (w .ledger .side1) (w .ledger .side2)) clock
-      ∙ holds-book (s .book) (s .held) (s .side1) (s .side2) w (message-same m))
+      rw (p, q, r) (ap (λ (x : Setting). record { setting = x; ledger = w .ledger }) (sym (message-setting (whole s) m)))
 
   applied-leaves : (bytes : List ℕ) (r : Structs.Applied) (h : List ℕ) (l1 l2 : List ℤ) → Applies (s .book) (s .held) (s .side1) (s .side2) bytes r h l1 l2
       → bookOf (r .book) h l1 l2 ≡ after (whole s) (callsIn 1 bytes)
@@ -103,7 +98,7 @@ module _ (s : State) where
       let w = applied (whole s) bytes .book in
       let e = applied-is-calls (whole s) bytes in
       rw (ap (λ (x : Structs.Applied). x .book) (p .0), p .1, p .2, p .3)
-      (holds-book (s .book) (s .held) (s .side1) (s .side2) w (rw e (after-same (whole s) (callsIn 1 bytes))) ∙ e)
+      (holds-book (s .book) w (rw e (run-moves-clock 1 (whole s) bytes)) ∙ e)
 
   run-calls : (room : ℕ) (bytes : List ℕ) → runOn room (whole s) bytes .book ≡ after (whole s) (callsIn room bytes)
   run-calls room bytes =
@@ -117,7 +112,7 @@ module _ (s : State) where
       let w = runOn (length answers) (whole s) bytes .book in
       let e = run-calls (length answers) bytes in
       rw (ap (λ (x : AppliedAll). x .book) (p .0), p .1, p .2, p .3)
-      (holds-book (s .book) (s .held) (s .side1) (s .side2) w (rw e (after-same (whole s) (callsIn (length answers) bytes))) ∙ e)
+      (holds-book (s .book) w (rw e (run-moves-clock (length answers) (whole s) bytes)) ∙ e)
 
 -- ---- so do calls one after another
 
@@ -155,11 +150,16 @@ module _ {start : State} {setup : Meaning.Setup} {slots lent1 lent2 : ℕ} (begi
   begun-sound = ap sound begun-holds ∙ after-sound contracts-lawful setup slots lent1 lent2 (begins .unrefused) calls
 
   -- what stands in the tables is what the last call that concerns it gives
-  pub begun-history : (i : ℕ) (σ : Side) (D period : ℕ) → isPeriod (openedBook contracts setup slots .time) D period ≡ true
-      → standing (whole t) i σ D period ≡ decides (setup .rows) (eventsOf (openedBook contracts setup slots) calls) i σ D period
+  pub begun-history : (i : ℕ) (σ : Side) (D period : ℕ) → isPeriod (whole t .setting .time) D period ≡ true
+      → standing (whole t) i σ D period ≡ decides (eventsOf (openedBook contracts setup slots) calls) i σ D (periodsOn (whole t .setting .time) D) period
   begun-history i σ D period p =
-      ap (λ (w : Meaning.Book contracts). standing w i σ D period) begun-holds
-      ∙ history contracts-lawful setup slots lent1 lent2 (begins .unrefused) calls i σ D period p
+      subst
+      (λ (w : Meaning.Book contracts).
+      isPeriod (w .setting .time) D period ≡ true
+      → standing w i σ D period ≡ decides (eventsOf (openedBook contracts setup slots) calls) i σ D (periodsOn (w .setting .time) D) period)
+      (sym begun-holds)
+      (history contracts-lawful setup slots lent1 lent2 (begins .unrefused) calls i σ D period)
+      p
 
 -- by `open`
 module _ (setup : Setup) (held : List ℕ) (side1 side2 : List ℤ) (r : Opened) (h : List ℕ) (l1 l2 : List ℤ)
@@ -188,6 +188,6 @@ module _ (setup : Setup) (held : List ℕ) (side1 side2 : List ℤ) (r : Opened)
     pub stays-sound : sound (whole t) ≡ true
     stays-sound = begun-sound opens-begins t calls made
 
-    pub tables-follow-history : (i : ℕ) (σ : Side) (D period : ℕ) → isPeriod (begun .time) D period ≡ true
-        → standing (whole t) i σ D period ≡ decides (setupOf setup .rows) (eventsOf begun calls) i σ D period
+    pub tables-follow-history : (i : ℕ) (σ : Side) (D period : ℕ) → isPeriod (whole t .setting .time) D period ≡ true
+        → standing (whole t) i σ D period ≡ decides (eventsOf begun calls) i σ D (periodsOn (whole t .setting .time) D) period
     tables-follow-history = begun-history opens-begins t calls made

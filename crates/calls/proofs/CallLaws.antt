@@ -27,9 +27,9 @@ use Rattle.messages.specs.Structs.{nullificationOf}
 use Rattle.messages.specs.declared.Nullification.{Nullification}
 use Rattle.effects.specs.Effects.{pairBlanked}
 use Rattle.effects.proofs.EffectLaws.{blanked-few}
-use Rattle.checks.specs.Checks.{accountsWrong, pairRules}
+use Rattle.checks.specs.Checks.{pairCheckRules}
 use Rattle.calls.specs.Answers.{afterCall}
-use Rattle.book.specs.Structs.{bookOf}
+use Rattle.book.specs.Structs.{settingIn, bookOf}
 use Rattle.book.specs.declared.Book.{Book}
 
 module _ (b : Meaning.Book contracts) (c : Call contracts) where
@@ -50,10 +50,10 @@ pub after-one : (b : Meaning.Book contracts) (c : Call contracts) → after b (c
 unfolding after run
 after-one b c = refl
 
--- a message leaves the clock, and a nullification the identifiers too
-pub message-clock : (b : Meaning.Book contracts) (m : Message contracts) → afterCall b (message m) .time ≡ b .time
+-- a message leaves the setting, and a nullification the identifiers too
+pub message-setting : (b : Meaning.Book contracts) (m : Message contracts) → afterCall b (message m) .setting ≡ b .setting
 unfolding act
-message-clock b m = on (accepted b (message m)) (λ e. rw e) (λ e. rw e)
+message-setting b m = on (accepted b (message m)) (λ e. rw e) (λ e. rw e)
 
 pub nullification-held : (b : Meaning.Book contracts) (x : Meant.Nullification) → afterCall b (message (nullification x)) .ledger .held ≡ b .ledger .held
 unfolding act written heldAfter
@@ -64,7 +64,7 @@ module _ (b : Book) (held : List ℕ) (side1 side2 : List ℤ) where
   pub sound-slots : sound (bookOf b held side1 side2) ≡ true → length held ≤ 256
   sound-slots s =
       let whole = bookOf b held side1 side2 in
-      opens (Meaning.setupOf whole) (length held) (length side1) (length side2) (parts whole s .setup) .few-slots
+      opens (Meaning.setupOf (whole .setting)) (length held) (length side1) (length side2) (parts whole s .setup) .few-slots
 
   module _ (x : Nullification) where
     abbrev pub nullificationCall : Call contracts
@@ -78,15 +78,15 @@ module _ (b : Book) (held : List ℕ) (side1 side2 : List ℤ) where
     nullification-answer = refl
 
     acts-side : (σ : Side)
-        → rewritten {K = contracts} (bookOf b held side1 side2 .rows) (bookOf b held side1 side2 .time) (nullification (nullificationOf x)) held σ (side (bookOf b held side1 side2 .ledger) σ)
+        → rewritten {K = contracts} (bookOf b held side1 side2 .setting .rows) (bookOf b held side1 side2 .setting .time) (nullification (nullificationOf x)) held σ (side (bookOf b held side1 side2 .ledger) σ)
         ≡ side (act (bookOf b held side1 side2) nullificationCall .ledger) σ
     unfolding act written heldAfter
     acts-side one = refl
     acts-side two = refl
 
     -- of a sound book only the rules that read no table are left
-    pub nullification-rest : sound (bookOf b held side1 side2) ≡ true → nullificationAnswer ≡ answer (pairRules b x)
-    unfolding nullificationRules pairRules accountsWrong
+    pub nullification-rest : sound (bookOf b held side1 side2) ≡ true → nullificationAnswer ≡ answer (pairCheckRules (settingIn b) (nullificationOf x))
+    unfolding nullificationRules pairCheckRules
     nullification-rest e = passes (nullificationRules (bookOf b held side1 side2) (nullificationOf x)) 0 refl (ap not e)
 
     -- as `blank_pair` leaves it

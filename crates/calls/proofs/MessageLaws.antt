@@ -10,7 +10,7 @@ use borrow.Author.Tests.{lt-ltb, le-ltb, ne-eqb}
 use Rattle.words.specs.Rules.{answer}
 use Rattle.laws.proofs.Cases.{on, by-eq}
 use Rattle.words.specs.Runs.{run}
-use Rattle.meaning.specs.Time.{Time}
+use Rattle.meaning.specs.Settings.{Setting}
 use Rattle.meaning.specs.Ledgers.{contracts}
 use Rattle.meaning.specs.Messages as Meant
 use Rattle.meaning.specs.Books as Meaning
@@ -30,7 +30,7 @@ use Rattle.calls.specs.Answers.{afterCall, afterMessage, nextAnswer, one
 use Rattle.calls.specs.declared.Gated.{Gated}
 use Rattle.calls.specs.declared.Notified.{Notified}
 use Rattle.calls.specs.declared.sound_book.Done.{Done}
-use Rattle.calls.proofs.CallLaws.{after-one, message-clock, nullification-held}
+use Rattle.calls.proofs.CallLaws.{after-one, message-setting, nullification-held}
 use Rattle.calls.proofs.GateLaws.{gate-sound, gated-steps}
 use Rattle.calls.proofs.NotifyLaws.{notified-number, notification-answer}
 use Rattle.calls.proofs.Promises.{Notifies, Nullifies}
@@ -64,7 +64,7 @@ Does b before m r h l1 l2 =
 -- by the answer with kind and slot, the gates closed and the tables
 done-by : (b : Book) (before w : Meaning.Book contracts) (m : Packed) (told : Notified) (h : List ℕ) (l1 l2 : List ℤ)
     → afterMessage before m ≡ w → told ≡ record { answer = answer (messageRules before m); kind = kindGiven before m; slot = slotGiven before m }
-    → w .time .closed ≡ b .closed → h ≡ w .ledger .held → l1 ≡ w .ledger .side1 → l2 ≡ w .ledger .side2
+    → w .setting .time .closed ≡ b .closed → h ≡ w .ledger .held → l1 ≡ w .ledger .side1 → l2 ≡ w .ledger .side2
     → Does b before m (record { answer = told .answer; kind = told .kind; slot = told .slot; book = b }) h l1 l2
 done-by b before w m told h l1 l2 e p q r s t = rw (e, q) (rw p refl, r, s, t)
 
@@ -84,15 +84,15 @@ module _ (b : Book) (held : List ℕ) (side1 side2 : List ℤ) where
   gate-number : sound whole ≡ true → nextAnswer b ≡ answer (gateRules whole)
   gate-number s = sym (gate-sound b held side1 side2 s)
 
-  gate-clock : gated b (answer (gateRules whole)) .book .closed ≡ afterCall whole Calls.gate .time .closed
-  gate-clock = ap (λ (w : Meaning.Book contracts). w .time .closed) (gated-steps b held side1 side2)
+  gate-clock : gated b (answer (gateRules whole)) .book .closed ≡ afterCall whole Calls.gate .setting .time .closed
+  gate-clock = ap (λ (w : Meaning.Book contracts). w .setting .time .closed) (gated-steps b held side1 side2)
 
   pub does-gate : sound whole ≡ true → (g : Gated) → g ≡ gated b (nextAnswer b)
       → Does b whole gate (record { answer = g .answer; kind = 0; slot = 0; book = g .book }) held side1 side2
   unfolding messageRules kindGiven slotGiven callsOf rulesFor
   does-gate s g p =
       let number = answer (gateRules whole) in
-      let closed : g ≡ record { answer = number; book = record { setup = b .setup; closed = afterCall whole Calls.gate .time .closed } } =
+      let closed : g ≡ record { answer = number; book = record { setup = b .setup; closed = afterCall whole Calls.gate .setting .time .closed } } =
       p ∙ ap (gated b) (gate-number s) ∙ gated-book number ∙ ap (λ (k : ℕ). record { answer = number; book = record { setup = b .setup; closed = k } }) gate-clock in
       rw (after-one whole Calls.gate, gate-tables)
       (ap (λ (x : Gated). record { answer = x .answer; kind = 0; slot = 0; book = x .book }) closed, refl, refl, refl)
@@ -106,7 +106,7 @@ module _ (b : Book) (held : List ℕ) (side1 side2 : List ℤ) where
         done-by b whole (afterCall whole (message (Meant.notification n))) (notification n) r h l1 l2
         (after-one whole (message (Meant.notification n)))
         (p .0 ∙ ap (λ (k : ℕ). record { answer = k; kind = notified whole n .kind; slot = notified whole n .slot }) (notified-number whole n ∙ notification-answer whole n))
-        (ap (λ (t : Time). t .closed) (message-clock whole (Meant.notification n)))
+        (ap (λ (s : Setting). s .time .closed) (message-setting whole (Meant.notification n)))
         (p .1) (p .2) (p .3)
 
     pub does-nullification : (r : ℕ) (l1 l2 : List ℤ) → Nullifies b held side1 side2 (m .nullification) r l1 l2
@@ -117,7 +117,7 @@ module _ (b : Book) (held : List ℕ) (side1 side2 : List ℤ) where
         done-by b whole (afterCall whole (message (Meant.nullification x))) (nullification x) (record { answer = r; kind = 0; slot = 0 }) held l1 l2
         (after-one whole (message (Meant.nullification x)))
         (ap (λ (k : ℕ). record { answer = k; kind = 0; slot = 0 }) (p .0))
-        (ap (λ (t : Time). t .closed) (message-clock whole (Meant.nullification x)))
+        (ap (λ (s : Setting). s .time .closed) (message-setting whole (Meant.nullification x)))
         (sym (nullification-held whole x)) (p .1) (p .2)
 
   -- a message of another kind does nothing: 20 for the fourth, 23 for those above it

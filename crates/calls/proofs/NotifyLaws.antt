@@ -19,7 +19,7 @@ use Rattle.meaning.specs.Messages as Messages
 use Rattle.meaning.specs.Messages.{notification, writes, heldAfter, rewritten, written}
 use Rattle.meaning.specs.Books as Meaning
 use Rattle.meaning.specs.Soundness.{sound}
-use Rattle.meaning.specs.Notifications.{under, isReplacement, isAdditional, kindOf, kindNumber, notificationRules, notified}
+use Rattle.meaning.specs.Notifications.{under, isReplacement, isAdditional, kindOf, kindNumber, kindRules, slotRules, notificationRules, notified}
 use Rattle.meaning.specs.Calls.{Call, message, rulesFor, refusal, act}
 use Rattle.meaning.proofs.SetupRules.{opens}
 use Rattle.meaning.proofs.Sound.{parts}
@@ -60,31 +60,35 @@ module _ (b : Meaning.Book contracts) (n : Messages.Notification contracts) wher
   kind-three = on (isReplacement b n) (λ e. rw (e, replacement-alone e)) (λ e. on (isAdditional b n) (λ q. rw (e, q)) (λ q. rw (e, q)))
 
   abbrev pub lateAnswer : ℕ
-  lateAnswer = answer (lateRules (kindNumber (kindOf b n)) (under b n .type) (slotFor (b .ledger .held) (n .identifier)) (length (b .ledger .held)))
+  lateAnswer = answer (lateRules (kindNumber (kindOf b n)) (under (b .setting) n .type) (slotFor (b .ledger .held) (n .identifier)) (length (b .ledger .held)))
 
-  last-three : answer (drop 11 (notificationRules b n)) ≡ lateAnswer
-  unfolding answer notificationRules lateRules
+  -- the rules that read a table
+  abbrev lastThree : List Rule
+  lastThree = kindRules b n ++ slotRules (b .ledger) n
+
+  last-three : answer lastThree ≡ lateAnswer
+  unfolding answer lateRules
   last-three = rw (kind-two, kind-three, slot-full (b .ledger .held) (n .identifier))
 
   pub unsound-answer : sound b ≡ false → answer (notificationRules b n) ≡ 1
   unfolding answer notificationRules
   unsound-answer e = rw e
 
-  split : sound b ≡ true → answer (notificationRules b n) ≡ answer (checkRules b n ++ drop 11 (notificationRules b n))
+  split : sound b ≡ true → answer (notificationRules b n) ≡ answer (checkRules (b .setting) n ++ lastThree)
   unfolding notificationRules checkRules
   split e = passes (notificationRules b n) 0 refl (ap not e)
 
-  pub early-answer : sound b ≡ true → answer (checkRules b n) ≢ 0 → answer (notificationRules b n) ≡ answer (checkRules b n)
-  early-answer e q = split e ∙ earlier-answers (checkRules b n) (drop 11 (notificationRules b n)) q
+  pub early-answer : sound b ≡ true → answer (checkRules (b .setting) n) ≢ 0 → answer (notificationRules b n) ≡ answer (checkRules (b .setting) n)
+  early-answer e q = split e ∙ earlier-answers (checkRules (b .setting) n) lastThree q
 
-  numbered-checks : numbered (checkRules b n) ≡ true
+  numbered-checks : numbered (checkRules (b .setting) n) ≡ true
   unfolding checkRules
   numbered-checks = refl
 
-  pub late-answer : sound b ≡ true → answer (checkRules b n) ≡ 0 → answer (notificationRules b n) ≡ lateAnswer
-  late-answer e q = split e ∙ later-answers (checkRules b n) (drop 11 (notificationRules b n)) numbered-checks q ∙ last-three
+  pub late-answer : sound b ≡ true → answer (checkRules (b .setting) n) ≡ 0 → answer (notificationRules b n) ≡ lateAnswer
+  late-answer e q = split e ∙ later-answers (checkRules (b .setting) n) lastThree numbered-checks q ∙ last-three
 
-  pub late-same : (k t s : ℕ) → k ≡ kindNumber (kindOf b n) → t ≡ under b n .type → s ≡ slotFor (b .ledger .held) (n .identifier)
+  pub late-same : (k t s : ℕ) → k ≡ kindNumber (kindOf b n) → t ≡ under (b .setting) n .type → s ≡ slotFor (b .ledger .held) (n .identifier)
       → answer (lateRules k t s (length (b .ledger .held))) ≡ lateAnswer
   late-same k t s p q r = rw (p, q, r)
 
@@ -118,20 +122,20 @@ module _ (b : Meaning.Book contracts) (n : Messages.Notification contracts) wher
         rw (p, q) (sym (ap (λ (w : Meaning.Book contracts). w .ledger .held) (call-accepted b notificationCall (sym notification-answer ∙ e))))
 
     acts-side : (σ : Side)
-        → rewritten {K = contracts} (b .rows) (b .time) (notification n) (heldAfter (notification n) (b .ledger .held)) σ (side (b .ledger) σ)
+        → rewritten {K = contracts} (b .setting .rows) (b .setting .time) (notification n) (heldAfter (notification n) (b .ledger .held)) σ (side (b .ledger) σ)
         ≡ side (act b notificationCall .ledger) σ
     unfolding act written
     acts-side one = refl
     acts-side two = refl
 
-    written-or-not : (σ : Side) (w : Bool) → w ≡ writes (b .rows) n σ
-        → cond w (mapAt (slotRule (b .time) (slotFor (b .ledger .held) (n .identifier)) (n .first) (suc (n .last)) (volumesGiven n)) (side (b .ledger) σ)) (side (b .ledger) σ)
-        ≡ rewritten {K = contracts} (b .rows) (b .time) (notification n) (heldAfter (notification n) (b .ledger .held)) σ (side (b .ledger) σ)
+    written-or-not : (σ : Side) (w : Bool) → w ≡ writes (b .setting .rows) n σ
+        → cond w (mapAt (slotRule (b .setting .time) (slotFor (b .ledger .held) (n .identifier)) (n .first) (suc (n .last)) (volumesGiven n)) (side (b .ledger) σ)) (side (b .ledger) σ)
+        ≡ rewritten {K = contracts} (b .setting .rows) (b .setting .time) (notification n) (heldAfter (notification n) (b .ledger .held)) σ (side (b .ledger) σ)
     written-or-not σ true p = sym (accepted-side b n e σ (side (b .ledger) σ) (sym p))
     written-or-not σ false p =
-        sym (unwritten-side (b .rows) (b .time) n (b .ledger .held) σ (side (b .ledger) σ) (heldAfter (notification n) (b .ledger .held)) (sym p))
+        sym (unwritten-side (b .setting .rows) (b .setting .time) n (b .ledger .held) σ (side (b .ledger) σ) (heldAfter (notification n) (b .ledger .held)) (sym p))
 
-    pub side-notified : (σ : Side) (w : Bool) (t : Time) (slot : ℕ) → w ≡ writes (b .rows) n σ → t ≡ b .time → slot ≡ slotFor (b .ledger .held) (n .identifier)
+    pub side-notified : (σ : Side) (w : Bool) (t : Time) (slot : ℕ) → w ≡ writes (b .setting .rows) n σ → t ≡ b .setting .time → slot ≡ slotFor (b .ledger .held) (n .identifier)
         → cond w (mapAt (slotRule t slot (n .first) (suc (n .last)) (volumesGiven n)) (side (b .ledger) σ)) (side (b .ledger) σ)
         ≡ side (afterCall b notificationCall .ledger) σ
     side-notified σ w t slot p q r =
@@ -143,7 +147,7 @@ module _ (b : Meaning.Book contracts) (n : Messages.Notification contracts) wher
 pub sound-fits : (b : Book) (held : List ℕ) (side1 side2 : List ℤ) → sound (bookOf b held side1 side2) ≡ true → Fits b held side1 side2
 sound-fits b held side1 side2 s =
     let whole = bookOf b held side1 side2 in
-    let o = opens (Meaning.setupOf whole) (length held) (length side1) (length side2) (parts whole s .setup) in
+    let o = opens (Meaning.setupOf (whole .setting)) (length held) (length side1) (length side2) (parts whole s .setup) in
     record {
       days-few = omega (arith, o .few-days, codes-count b);
       slots-few = o .few-slots;

@@ -5,7 +5,7 @@ use mathlib.Core.Path.{_≡_}
 use Prim.Native.Nat.{ℕ}
 use lib.IntN.{ℤ}
 use lib.ListN.{length}
-use Rattle.meaning.specs.Time.{isPeriod}
+use Rattle.meaning.specs.Time.{isPeriod, periodsOn}
 use Rattle.meaning.specs.Ledgers.{contracts, Side}
 use Rattle.meaning.specs.Books.{openedBook}
 use Rattle.meaning.specs.Books as Meaning
@@ -40,6 +40,6 @@ module _ (bytes held : List ℕ) (side1 side2 : List ℤ) (r : OpenedPacked) (h 
     pub packed-stays-sound : sound (whole t) ≡ true
     packed-stays-sound = begun-sound packed-begins t calls made
 
-    pub packed-tables-follow-history : (i : ℕ) (σ : Side) (D period : ℕ) → isPeriod (begun .time) D period ≡ true
-        → standing (whole t) i σ D period ≡ decides (setupIn bytes .rows) (eventsOf begun calls) i σ D period
+    pub packed-tables-follow-history : (i : ℕ) (σ : Side) (D period : ℕ) → isPeriod (whole t .setting .time) D period ≡ true
+        → standing (whole t) i σ D period ≡ decides (eventsOf begun calls) i σ D (periodsOn (whole t .setting .time) D) period
     packed-tables-follow-history = begun-history packed-begins t calls made

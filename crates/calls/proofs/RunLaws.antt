@@ -9,16 +9,17 @@ use lib.IntN.{ℤ}
 use lib.ListN.{length, take, drop, set, length-set, length-drop}
 use lib.Seq.{sets, take-length, drop-drop}
 use Rattle.laws.proofs.Cases.{by-eq}
+use Rattle.meaning.specs.Settings.{Setting}
 use Rattle.meaning.specs.Ledgers.{contracts}
 use Rattle.meaning.specs.Books as Meaning
 use Rattle.meaning.specs.Soundness.{sound}
 use Rattle.meaning.specs.PackedMessages.{readMessage}
 use Rattle.meaning.specs.PackedCalls.{callsOf, Step, stepped, Run, nothingRun, appliedAll}
-use Rattle.meaning.proofs.History.{SameBook, same-book, after-same}
+use Rattle.meaning.proofs.OnlyClock.{OnlyClock, clock-alone, packed-moves-clock}
 use Rattle.meaning.proofs.PackedCalls.{read-takes, stepped-read, stepped-unread, unread-stays, takes-read, stepped-sound, no-room, bytes-ended, unreadable, one-more}
 use Rattle.setups.specs.declared.Setup.{Setup}
 use Rattle.book.specs.declared.Book.{Book}
-use Rattle.book.specs.Structs.{bookOf}
+use Rattle.book.specs.Structs.{settingIn, bookOf}
 use Rattle.calls.specs.Answers.{bookAt, ranOf}
 use Rattle.calls.specs.declared.AppliedAll.{AppliedAll}
 use Rattle.calls.specs.declared.packed.Stepped.{Stepped}
@@ -71,16 +72,16 @@ rest-part bytes k = ap (λ (n : ℕ). take n (drop k bytes)) (sym (length-drop k
 
 -- ---- the book by value beside the tables holds what a step leaves
 
-pub stepped-same : (w : Meaning.Book contracts) (bytes : List ℕ) → SameBook w (stepped w bytes .book)
-stepped-same w bytes =
+pub step-moves-clock : (w : Meaning.Book contracts) (bytes : List ℕ) → OnlyClock (w .setting) (stepped w bytes .book .setting)
+step-moves-clock w bytes =
     by-eq (readMessage bytes .answer) 0
-    (λ e. rw (stepped-read bytes w e) (after-same w (callsOf (readMessage bytes .read))))
-    (λ n. rw (stepped-unread bytes w n) (same-book w))
+    (λ e. rw (stepped-read bytes w e) (packed-moves-clock w (readMessage bytes .read)))
+    (λ n. rw (stepped-unread bytes w n) (clock-alone (w .setting)))
 
--- its days, accounts and authorisations are those that it came with
-pub holds-book : (b : Book) (held : List ℕ) (side1 side2 : List ℤ) (w : Meaning.Book contracts) → SameBook (bookOf b held side1 side2) w
+-- it has the setting that it came with, but for the clock
+pub holds-book : (b : Book) (w : Meaning.Book contracts) → OnlyClock (settingIn b) (w .setting)
     → bookOf (bookAt b w) (w .ledger .held) (w .ledger .side1) (w .ledger .side2) ≡ w
-holds-book b held side1 side2 w s = rw (← s .first, ← s .codes, ← s .accounts, ← s .rows) refl
+holds-book b w e = ap (λ (s : Setting). record { setting = s; ledger = w .ledger }) (sym e)
 
 -- ---- between two turns
 
@@ -133,7 +134,7 @@ module _ (bytes : List ℕ) (b : Book) (held₀ : List ℕ) (side1₀ side2₀ :
 
     -- the book that the run came with, and the gates that are closed now
     now-book : (w : Meaning.Book contracts) → bookAt now w ≡ bookAt b w
-    now-book w = ap (λ (s : Setup). record { setup = s; closed = w .time .closed }) (r .same-setup)
+    now-book w = ap (λ (s : Setup). record { setup = s; closed = w .setting .time .closed }) (r .same-setup)
 
     module _ (room : done < length answers₀) (more : used < length bytes) where
       not-empty : length (drop used bytes) ≢ 0
@@ -177,7 +178,7 @@ module _ (bytes : List ℕ) (b : Book) (held₀ : List ℕ) (side1₀ side2₀ :
           let answered : a .answer ≡ one .answer = ap (λ (x : Stepped). x .answer) (p .0) in
           let book : a .book ≡ bookAt now (one .book) = ap (λ (x : Stepped). x .book) (p .0) in
           let left : bookOf (a .book) h l1 l2 ≡ one .book =
-          rw (book, p .1, p .2, p .3) (holds-book now held side1 side2 (one .book) (stepped-same current (drop used bytes))) in
+          rw (book, p .1, p .2, p .3) (holds-book now (one .book) (step-moves-clock current (drop used bytes))) in
           let rest =
           ap (λ (k : ℕ). appliedAll k current (drop used bytes)) next-room
           ∙ one-more current (drop used bytes) (length answers₀ - (done + 1)) not-empty (λ z. n (taken ∙ z)) in

@@ -32,7 +32,7 @@ afterMessage b m = after b (callsOf m)
 
 -- the book by value, its setup as it came and the clock as meaning has it
 abbrev pub bookAt : Book → Meaning.Book contracts → Book
-bookAt b whole = record { setup = b .setup; closed = whole .time .closed }
+bookAt b whole = record { setup = b .setup; closed = whole .setting .time .closed }
 
 -- ---- closing a gate: one more is closed, and with a refusal the book is as it came
 

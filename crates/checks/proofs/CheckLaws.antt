@@ -1,11 +1,13 @@
 -- What the struct types say of a book and a notification, and what the loops over entries compute.
 use mathlib.Core.Bool.{Bool, true, false, not, _&&_, _||_}
 use mathlib.Core.List.{List, []}
+use mathlib.Core.Logic.{_≢_}
 use mathlib.Core.Path.{_≡_, refl, sym, ap, ap₂, _∙_}
 use Prim.Native.Nat.{ℕ, zero, suc, _≤_, _<_, min}
 use native.Mathlib.Omega.{arith}
 use lib.IntN.{ℤ}
 use lib.ListN.{length, getD, take, drop, length-map, List·getD-eq-default}
+use borrow.Author.Tests.{ne-eqb}
 use denote.Laws.{Is}
 use denote.Struct.Declared.{row}
 use denote.Struct.Laws.{owed, vals}
@@ -16,21 +18,24 @@ use Rattle.laws.proofs.Below.{some-none, some-front, some-miss, some-all, some-
 use Rattle.laws.proofs.Builds.{length-build, getD-build-past, any-build}
 use Rattle.laws.proofs.Cases.{by-lt, not-not, same-false}
 use Rattle.meaning.specs.Time.{periodsAt, everyGateClosed, currentDay}
-use Rattle.meaning.specs.Authorisations.{Authorisation, rowAt, inForce}
+use Rattle.meaning.specs.Authorisations.{Authorisation, rowAt, sameAccounts}
+use Rattle.meaning.specs.Settings.{Setting, inForce}
 use Rattle.meaning.specs.Ledgers.{Sort, contracts}
 use Rattle.meaning.specs.Messages as Messages
 use Rattle.meaning.specs.Messages.{writes}
 use Rattle.meaning.specs.Books as Books
-use Rattle.meaning.specs.Notifications.{under, keyOrAgentWrong, originatorRight, highestPeriod, rising, periodWrong, volumeWrong, notificationRules}
+use Rattle.meaning.specs.Notifications.{keyOrAgentWrong, originatorRight, highestPeriod, rising, periodWrong, volumeWrong, notificationRules}
 use Rattle.clock.specs.declared.Clock.{Clock}
 use Rattle.clock.specs.Structs.{timeOf}
+use Rattle.meaning.proofs.MessageValues.{originator-again}
+use Rattle.setups.proofs.SetupHeld.{rows-own}
 use Rattle.setups.specs.Structs.{codesOf}
 use Rattle.messages.specs.declared.Notification.{Notification}
 use Rattle.messages.specs.Structs.{noEntry, entryOf, entriesOf, notificationOf}
 use Rattle.messages.proofs.Notification as Note
 use Rattle.messages.proofs.Notification.Laws as NoteLaws
 use Rattle.book.specs.declared.Book.{Book}
-use Rattle.book.specs.Structs.{timeIn, clockIn, rowsIn, bookOf}
+use Rattle.book.specs.Structs.{timeIn, clockIn, rowsIn, settingIn}
 use Rattle.book.proofs.StateLaws.{clock-time}
 use Rattle.checks.specs.Checks.{checkRules}
 
@@ -56,14 +61,25 @@ module _ (b : Book) {c : Clock} (e : c ≡ clockIn b) where
 
 module _ (b : Book) (n : Notification) {a : Authorisation} (e : a ≡ rowAt (rowsIn (b .setup)) (n .authorisation)) where
   pub key-test : {r : Bool} → r ≡ not (n .key =? a .key) || not (n .agent =? a .agent1 || n .agent =? a .agent2)
-      → r ≡ keyOrAgentWrong (bookOf b [] [] []) (notificationOf n)
+      → r ≡ keyOrAgentWrong (settingIn b) (notificationOf n)
   unfolding keyOrAgentWrong writes notificationOf
   key-test q = rw (← e) q
 
-  pub force-test : {r : Bool} {today : ℕ} → today ≡ currentDay (timeIn b) → r ≡ inForce a today
-      → not r ≡ not (inForce (under (bookOf b [] [] []) (notificationOf n)) (currentDay (timeIn b)))
+  pub force-test : {r : Bool} {D : ℕ} → D ≡ currentDay (timeIn b) → r ≡ between (a .first) (a .last) D
+      → not r ≡ not (inForce (settingIn b) (notificationOf n .authorisation) (currentDay (timeIn b)))
   unfolding notificationOf
-  force-test today q = rw (← e, ← today) (ap not q)
+  force-test today q = ap not (q ∙ ap₂ (λ (x : Authorisation) (D : ℕ). between (x .first) (x .last) D) e today)
+
+  -- the originator is another one
+  pub originator-test : {o : Authorisation} {D : ℕ} → o ≡ rowAt (rowsIn (b .setup)) (n .originator) → D ≡ currentDay (timeIn b)
+      → n .reference < 65536 → n .originator ≢ n .authorisation
+      → n .originator <? b .setup .authorisations && o .last <? D && sameAccounts o a ≡ originatorRight (settingIn b) (notificationOf n)
+  unfolding originatorRight notificationOf
+  originator-test {o} {D} p today fits other =
+      let known : Bool = n .originator <? b .setup .authorisations in
+      rw (originator-again (n .originator) (n .reference) fits, ne-eqb (n .originator) (n .authorisation) other, rows-own)
+      (ap (λ (x : Authorisation). known && x .last <? D && sameAccounts x a) p
+      ∙ ap₂ (λ (y : Authorisation) (k : ℕ). known && rowAt (rowsIn (b .setup)) (n .originator) .last <? k && sameAccounts (rowAt (rowsIn (b .setup)) (n .originator)) y) e today)
 
 -- ---- days
 
@@ -118,12 +134,12 @@ abbrev pub periodOf : Notification → ℕ → ℕ
 periodOf n k = getD (n .entries) k noEntry .period
 
 -- a notification's periods are wrong where they are too many or one is wrong
-pub periods-wrong : (b : Books.Book contracts) (n : Notification)
-    → periodWrong b (notificationOf n) ≡ 50 <? n .count || someBelow (n .count) (wrongPeriod 0 (highestPeriod b (notificationOf n)) (periodOf n))
+pub periods-wrong : (s : Setting) (n : Notification)
+    → periodWrong s (notificationOf n) ≡ 50 <? n .count || someBelow (n .count) (wrongPeriod 0 (highestPeriod s (notificationOf n)) (periodOf n))
 unfolding periodWrong notificationOf entriesOf
-periods-wrong b n =
+periods-wrong s n =
     let f : ℕ → Messages.Entry contracts = λ k. entryOf (getD (n .entries) k noEntry) in
-    let h : ℕ = highestPeriod b (notificationOf n) in
+    let h : ℕ = highestPeriod s (notificationOf n) in
     ap₂ _||_
     (ap (λ (m : ℕ). 50 <? m) (length-build (n .count) f))
     (ap not (rising-below (n .count) 0 h f) ∙ not-not (someBelow (n .count) (wrongPeriod 0 h (periodOf n))))
@@ -153,12 +169,6 @@ volumes-wrong n l =
 -- ---- the rules
 
 -- they are rules 2 to 11 of a notification's, in their order
-pub checks-are-rules : {K : Sort} (b : Books.Book K) (n : Messages.Notification K) → take 10 (drop 1 (notificationRules b n)) ≡ checkRules b n
+pub checks-are-rules : {K : Sort} (b : Books.Book K) (n : Messages.Notification K) → take 10 (drop 1 (notificationRules b n)) ≡ checkRules (b .setting) n
 unfolding notificationRules checkRules
 checks-are-rules b n = refl
-
--- and read no table
-pub checks-need-no-table : (b : Book) (held : List ℕ) (side1 side2 : List ℤ) (n : Messages.Notification contracts)
-    → checkRules (bookOf b held side1 side2) n ≡ checkRules (bookOf b [] [] []) n
-unfolding checkRules keyOrAgentWrong originatorRight periodWrong highestPeriod
-checks-need-no-table b held side1 side2 n = refl

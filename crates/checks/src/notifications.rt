@@ -6,15 +6,15 @@ ghost use mathlib.Core.Bool.{not, _||_};
 ghost use mathlib.Core.List.{[]};
 ghost use mathlib.Core.Path.{_≡_};
 ghost use Prim.Native.Nat.{min};
-ghost use Rattle.words.specs.Tests.{_=?_, within};
+ghost use Rattle.words.specs.Tests.{_=?_, between, within};
 ghost use Rattle.words.specs.Rules.{answer};
 ghost use Rattle.meaning.specs.Time.{dayOf, currentDay};
-ghost use Rattle.meaning.specs.Authorisations.{rowAt, inForce};
-ghost use Rattle.meaning.specs.Notifications.{originatorRight, highestPeriod, periodWrong, volumeWrong};
+ghost use Rattle.meaning.specs.Authorisations.{rowAt};
+ghost use Rattle.meaning.specs.Notifications.{originatorRight, highestPeriod, periodWrong, volumeWrong, authorisationRules, dayRules, entryRules};
 ghost use Rattle.messages.specs.Structs.{notificationOf};
 ghost use Rattle.setups.specs.Structs.{rowOf};
-ghost use Rattle.book.specs.Structs.{timeIn, rowsIn, bookOf};
-ghost use Rattle.checks.specs.Checks.{authorisationRules, dayRules, entryRules, checkRules, lateRules};
+ghost use Rattle.book.specs.Structs.{timeIn, rowsIn, settingIn};
+ghost use Rattle.checks.specs.Checks.{checkRules, lateRules};
 
 const MOST_ENTRIES: u8 = 50;
 
@@ -32,7 +32,7 @@ fn key_or_agent_wrong(row: setups::Authorisation, key: u16, agent: u8) -> bool
 
 // Its authorisation is in force today.
 fn in_force(row: setups::Authorisation, today: u32) -> bool
-    ensures { λ r. ⌜ r ≡ inForce (rowOf row) today ⌝ }
+    ensures { λ r. ⌜ r ≡ between (row .first) (row .last) today ⌝ }
 {
     (row.first as u32 <= today) & (today <= row.last as u32)
 }
@@ -45,7 +45,7 @@ fn originator_wrong(
     today: u32,
 ) -> bool
     requires { ⌜ (today ≡ currentDay (timeIn b)) × (rowOf row ≡ rowAt (rowsIn (b .setup)) (n .authorisation)) ⌝ }
-    ensures { λ r. ⌜ r ≡ not (originatorRight (bookOf b [] [] []) (notificationOf n)) ⌝ }
+    ensures { λ r. ⌜ r ≡ not (originatorRight (settingIn b) (notificationOf n)) ⌝ }
 {
     if n.originator == n.authorisation {
         return false;
@@ -72,7 +72,7 @@ fn place_of(b: Book, day: u16) -> u8
 
 // The last period that an entry may have.
 fn highest_period(b: Book, n: messages::Notification) -> u8
-    ensures { λ r. ⌜ r ≡ highestPeriod (bookOf b [] [] []) (notificationOf n) ⌝ }
+    ensures { λ r. ⌜ r ≡ highestPeriod (settingIn b) (notificationOf n) ⌝ }
 {
     if n.first != n.last {
         return PLAIN_DAY;
@@ -83,7 +83,7 @@ fn highest_period(b: Book, n: messages::Notification) -> u8
 
 // More than 50 entries, or one whose period does not rise or is too high: the first such entry ends the search.
 fn period_wrong(b: Book, n: messages::Notification) -> bool
-    ensures { λ r. ⌜ r ≡ periodWrong (bookOf b [] [] []) (notificationOf n) ⌝ }
+    ensures { λ r. ⌜ r ≡ periodWrong (settingIn b) (notificationOf n) ⌝ }
 {
     let count = n.count;
     if MOST_ENTRIES < count {
@@ -138,7 +138,7 @@ fn volume_wrong(n: messages::Notification) -> bool
 // 3 to 6: its authorisation is one of the book's, and it may be sent under it today.
 fn authorisation_refusal(b: Book, n: messages::Notification, today: u32) -> u8
     requires { ⌜ today ≡ currentDay (timeIn b) ⌝ }
-    ensures { λ r. ⌜ r ≡ answer (authorisationRules (bookOf b [] [] []) (notificationOf n)) ⌝ }
+    ensures { λ r. ⌜ r ≡ answer (authorisationRules (settingIn b) (notificationOf n)) ⌝ }
 {
     if b.setup.authorisations <= n.authorisation {
         return numbers::NO_AUTHORISATION;
@@ -159,7 +159,7 @@ fn authorisation_refusal(b: Book, n: messages::Notification, today: u32) -> u8
 // 7 to 9: its first and last day, against each other, today and the book.
 fn days_refusal(b: Book, n: messages::Notification, today: u32) -> u8
     requires { ⌜ today ≡ currentDay (timeIn b) ⌝ }
-    ensures { λ r. ⌜ r ≡ answer (dayRules (bookOf b [] [] []) (notificationOf n)) ⌝ }
+    ensures { λ r. ⌜ r ≡ answer (dayRules (settingIn b) (notificationOf n)) ⌝ }
 {
     if n.last < n.first {
         return numbers::LAST_BEFORE_FIRST;
@@ -176,7 +176,7 @@ fn days_refusal(b: Book, n: messages::Notification, today: u32) -> u8
 
 // 10 and 11: its entries.
 fn entries_refusal(b: Book, n: messages::Notification) -> u8
-    ensures { λ r. ⌜ r ≡ answer (entryRules (bookOf b [] [] []) (notificationOf n)) ⌝ }
+    ensures { λ r. ⌜ r ≡ answer (entryRules (settingIn b) (notificationOf n)) ⌝ }
 {
     if period_wrong(b, n) {
         return numbers::PERIOD_WRONG;
@@ -189,7 +189,7 @@ fn entries_refusal(b: Book, n: messages::Notification) -> u8
 
 // The number of the first rule from 2 to 11 that refuses the notification; 0 where none does.
 pub fn checks_refusal(b: Book, n: messages::Notification) -> u8
-    ensures { λ r. ⌜ r ≡ answer (checkRules (bookOf b [] [] []) (notificationOf n)) ⌝ }
+    ensures { λ r. ⌜ r ≡ answer (checkRules (settingIn b) (notificationOf n)) ⌝ }
 {
     let time = state::clock_of(b);
     if clock::every_gate_closed(time) {

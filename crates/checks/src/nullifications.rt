@@ -4,11 +4,14 @@ use book::numbers;
 use book::state;
 ghost use mathlib.Core.Path.{_≡_};
 ghost use Rattle.words.specs.Rules.{answer};
-ghost use Rattle.checks.specs.Checks.{accountsWrong, pairRules};
+ghost use Rattle.meaning.specs.Calls.{accountsWrong};
+ghost use Rattle.messages.specs.Structs.{nullificationOf};
+ghost use Rattle.book.specs.Structs.{settingIn};
+ghost use Rattle.checks.specs.Checks.{pairCheckRules};
 
 // An account is not in the book, or the two are one.
 fn accounts_wrong(b: Book, x: messages::Nullification) -> bool
-    ensures { λ r. ⌜ r ≡ accountsWrong b x ⌝ }
+    ensures { λ r. ⌜ r ≡ accountsWrong (settingIn b) (nullificationOf x) ⌝ }
 {
     let accounts = b.setup.accounts;
     !(x.account < accounts) | !(x.other < accounts) | (x.account == x.other)
@@ -16,7 +19,7 @@ fn accounts_wrong(b: Book, x: messages::Nullification) -> bool
 
 // What refuses a nullification that is not soundness: 2, 15, 9.
 pub fn judge_nullification(b: Book, x: messages::Nullification) -> u8
-    ensures { λ r. ⌜ r ≡ answer (pairRules b x) ⌝ }
+    ensures { λ r. ⌜ r ≡ answer (pairCheckRules (settingIn b) (nullificationOf x)) ⌝ }
 {
     let c = state::clock_of(b);
     if clock::every_gate_closed(c) {

@@ -15,10 +15,10 @@ use Rattle.words.specs.Rules.{answer}
 use Rattle.laws.proofs.Builds.{getD-build}
 use Rattle.laws.proofs.Cases.{on, by-lt, by-eq, and-false, and-true}
 use Rattle.laws.proofs.Lists.{mapAt-is, mapAt-same}
-use Rattle.meaning.specs.Time.{Time, days, dayNumber, isPeriodAt, isOpenAt}
+use Rattle.meaning.specs.Time.{Time, periodsAt, days, dayNumber, isPeriodAt, isOpenAt}
 use Rattle.meaning.specs.Authorisations.{Authorisation}
 use Rattle.meaning.specs.Ledgers.{contracts, theMark, slotAt, dayAt, periodAt, slotFor, holds, Side}
-use Rattle.meaning.specs.Messages.{Notification, Nullification, Message, notification, nullification, writes, about, from, leaves, volume, says, reaches, rewritten, heldAfter}
+use Rattle.meaning.specs.Messages.{Notification, Nullification, Message, notification, nullification, writes, about, from, leaves, sourceOf, volume, volumeOn, says, reaches, rewritten, heldAfter}
 use Rattle.meaning.specs.Books.{Book}
 use Rattle.meaning.specs.Notifications.{notificationRules}
 use Rattle.meaning.proofs.Sound.{parts}
@@ -34,7 +34,7 @@ use Rattle.effects.proofs.DayRuns.{only-is, only-id, only-none, only-mo
 unfoldable pub placeRule : List Authorisation → Time → Message contracts → List ℕ → Side → ℕ → ℤ → ℤ
 placeRule rows t m held σ j old =
     cond (holds (λ (i : ℕ). about rows m i σ) (getD held (slotAt (days t) j) 0) && reaches t m (dayAt (days t) j) (periodAt j))
-    (says (leaves m) (dayNumber t (dayAt (days t) j)) (periodAt j)) old
+    (says (leaves m) (dayNumber t (dayAt (days t) j)) (periodsAt (t .codes) (dayAt (days t) j)) (periodAt j)) old
 
 pub rewritten-rule : (rows : List Authorisation) (t : Time) (m : Message contracts) (held : List ℕ) (σ : Side) (table : List ℤ)
     → rewritten rows t m held σ table ≡ mapAt (placeRule rows t m held σ) table
@@ -43,7 +43,8 @@ rewritten-rule rows t m held σ table = refl
 
 -- the volumes and the day from which on the mark stands are what the message leaves to be said
 abbrev pub Gives : Message contracts → ℕ → List ℤ → Type 0
-Gives m until volumes = (D period : ℕ) → 1 ≤ period → period ≤ 50 → cond (ltb D until) (getD volumes (period - 1) (pos 0)) theMark ≡ says (leaves m) D period
+Gives m until volumes =
+    (D periods period : ℕ) → 1 ≤ period → period ≤ 50 → cond (ltb D until) (getD volumes (period - 1) (pos 0)) theMark ≡ says (leaves m) D periods period
 
 not-reached : (t : Time) (m : Message contracts) (d period : ℕ) → isPeriodAt (t .codes) d period ≡ false → reaches t m d period ≡ false
 unfolding reaches
@@ -52,14 +53,14 @@ not-reached t m d period p = rw p
 module _ (t : Time) (m : Message contracts) (until : ℕ) (volumes : List ℤ) (gives : Gives m until volumes) where
   -- a place by its day and period, in a slot that the message is about or not
   place-same : (own : Bool) (d period : ℕ) (old : ℤ)
-      → cond (own && reaches t m d period) (says (leaves m) (dayNumber t d) period) old
+      → cond (own && reaches t m d period) (says (leaves m) (dayNumber t d) (periodsAt (t .codes) d) period) old
       ≡ cond (own && (isPeriodAt (t .codes) d period && isOpenAt (t .codes) (t .closed) d period && leb (from m) (dayNumber t d)))
       (cond (ltb (dayNumber t d) until) (getD volumes (period - 1) (pos 0)) theMark) old
   place-same own d period old =
       on (isPeriodAt (t .codes) d period)
       (λ p.
       let w = is-period (t .codes) d period p in
-      rw (reaches-is t m d period p, p, gives (dayNumber t d) period (w .low) (w .most)))
+      rw (reaches-is t m d period p, p, gives (dayNumber t d) (periodsAt (t .codes) d) period (w .low) (w .most)))
       (λ p. rw (not-reached t m d period p, p, and-false own))
 
   -- where the message is about a slot's identifier exactly in this slot, its rewriting is the slot's
@@ -126,8 +127,8 @@ abbrev pub volumesGiven : Notification contracts → List ℤ
 volumesGiven n = build 50 (λ (p : ℕ). volume (n .entries) (suc p))
 
 notification-gives : (n : Notification contracts) → Gives (notification n) (suc (n .last)) (volumesGiven n)
-unfolding says leaves
-notification-gives n D period low high =
+unfolding says leaves volumeOn sourceOf
+notification-gives n D periods period low high =
     let z : suc (period - 1) ≡ period = omega arith in
     rw (getD-build 50 (λ (p : ℕ). volume (n .entries) (suc p)) (pos 0) (period - 1) (omega arith), z)
 
@@ -166,16 +167,16 @@ module _ (b : Book contracts) (n : Notification contracts) (accepted : answer (n
   pub accepted-slot : slotFor (b .ledger .held) (n .identifier) < length (b .ledger .held)
   accepted-slot = slot-inside (b .ledger .held) (n .identifier) held-apart (passes .room)
 
-  pub accepted-side : (σ : Side) (table : List ℤ) → writes (b .rows) n σ ≡ true
-      → rewritten (b .rows) (b .time) (notification n) (heldAfter (notification n) (b .ledger .held)) σ table
-      ≡ mapAt (slotRule (b .time) (slotFor (b .ledger .held) (n .identifier)) (n .first) (suc (n .last)) (volumesGiven n)) table
-  accepted-side σ table w = written-side (b .rows) (b .time) n (b .ledger .held) σ table held-apart (passes .room) w
+  pub accepted-side : (σ : Side) (table : List ℤ) → writes (b .setting .rows) n σ ≡ true
+      → rewritten (b .setting .rows) (b .setting .time) (notification n) (heldAfter (notification n) (b .ledger .held)) σ table
+      ≡ mapAt (slotRule (b .setting .time) (slotFor (b .ledger .held) (n .identifier)) (n .first) (suc (n .last)) (volumesGiven n)) table
+  accepted-side σ table w = written-side (b .setting .rows) (b .setting .time) n (b .ledger .held) σ table held-apart (passes .room) w
 
 -- ---- the slots of a nullification's pair
 
 nullification-gives : (x : Nullification) (volumes : List ℤ) → Gives (nullification x) 0 volumes
 unfolding says leaves
-nullification-gives x volumes D period low high = rw (le-ltb D 0 (omega arith))
+nullification-gives x volumes D periods period low high = rw (le-ltb D 0 (omega arith))
 
 module _ (rows : List Authorisation) (t : Time) (x : Nullification) (held : List ℕ) (σ : Side) where
   about-pair : (entry : ℕ) → holds (λ (i : ℕ). about {K = contracts} rows (nullification x) i σ) entry ≡ pairIn rows (x .account) (x .other) entry

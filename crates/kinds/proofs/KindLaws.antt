@@ -16,6 +16,7 @@ use Rattle.laws.proofs.Cases.{on, and-left, and-right, and-false, and-true}
 use Rattle.laws.proofs.Below.{some-more, some-hit, some-miss, some-all}
 use Rattle.meaning.specs.Time.{Time, periodsAt, gatesBefore, isOpenAt, days, dayNumber}
 use Rattle.meaning.specs.Authorisations.{Authorisation, rowAt, sameAccounts}
+use Rattle.meaning.specs.Settings.{Setting}
 use Rattle.meaning.specs.Ledgers.{contracts, one, two, index, at, originIn, isHeld, places}
 use Rattle.meaning.specs.Messages.{Notification, writes}
 use Rattle.meaning.specs.Books as Books
@@ -44,62 +45,62 @@ module _ (f : ℕ → Bool) where
 
 -- an open period that the slot states
 abbrev pub onPeriod : Books.Book contracts → Notification contracts → ℕ → ℕ → ℕ → Bool
-onPeriod b n s d p = isOpenAt (b .time .codes) (b .time .closed) d (suc p) && statesAt b n s d (suc p)
+onPeriod b n s d p = isOpenAt (b .setting .time .codes) (b .setting .time .closed) d (suc p) && statesAt b n s d (suc p)
 
 -- on one of the notification's days
 abbrev pub onDay : Books.Book contracts → Notification contracts → ℕ → ℕ → Bool
-onDay b n s d = between (n .first) (n .last) (dayNumber (b .time) d) && statesOpenOn b n s d
+onDay b n s d = between (n .first) (n .last) (dayNumber (b .setting .time) d) && statesOpenOn b n s d
 
 module _ (b : Books.Book contracts) (n : Notification contracts) (s : ℕ) where
-  pub slot-skip : isOther b n (getD (b .ledger .held) s 0) ≡ false → overlaps b n s ≡ false
+  pub slot-skip : isOther (b .setting) n (getD (b .ledger .held) s 0) ≡ false → overlaps b n s ≡ false
   unfolding overlaps
   slot-skip e = rw e
 
-  pub slot-miss : (d : ℕ) → someBelow d (onDay b n s) ≡ false → days (b .time) ≤ d → overlaps b n s ≡ false
+  pub slot-miss : (d : ℕ) → someBelow d (onDay b n s) ≡ false → days (b .setting .time) ≤ d → overlaps b n s ≡ false
   unfolding overlaps
-  slot-miss d none l = rw (some-upto (onDay b n s) d (days (b .time)) none l, and-false)
+  slot-miss d none l = rw (some-upto (onDay b n s) d (days (b .setting .time)) none l, and-false)
 
-  pub slot-hit : (d : ℕ) → isOther b n (getD (b .ledger .held) s 0) ≡ true → d < days (b .time) → onDay b n s d ≡ true → overlaps b n s ≡ true
+  pub slot-hit : (d : ℕ) → isOther (b .setting) n (getD (b .ledger .held) s 0) ≡ true → d < days (b .setting .time) → onDay b n s d ≡ true → overlaps b n s ≡ true
   unfolding overlaps
-  slot-hit d o l h = rw (o, some-hit (days (b .time)) (onDay b n s) d l h)
+  slot-hit d o l h = rw (o, some-hit (days (b .setting .time)) (onDay b n s) d l h)
 
-  pub day-miss : (d p : ℕ) → someBelow p (onPeriod b n s d) ≡ false → periodsWithin (b .time) (n .first) (n .last) d ≤ p → onDay b n s d ≡ false
+  pub day-miss : (d p : ℕ) → someBelow p (onPeriod b n s d) ≡ false → periodsWithin (b .setting .time) (n .first) (n .last) d ≤ p → onDay b n s d ≡ false
   unfolding statesOpenOn periodsWithin
   day-miss d p none l =
-      on (between (n .first) (n .last) (dayNumber (b .time) d))
-      (λ e. rw (e, some-upto (onPeriod b n s d) p (periodsAt (b .time .codes) d) none (rw e at l)))
+      on (between (n .first) (n .last) (dayNumber (b .setting .time) d))
+      (λ e. rw (e, some-upto (onPeriod b n s d) p (periodsAt (b .setting .time .codes) d) none (rw e at l)))
       (λ e. rw e)
 
-  pub day-hit : (d p : ℕ) → p < periodsWithin (b .time) (n .first) (n .last) d → onPeriod b n s d p ≡ true → onDay b n s d ≡ true
+  pub day-hit : (d p : ℕ) → p < periodsWithin (b .setting .time) (n .first) (n .last) d → onPeriod b n s d p ≡ true → onDay b n s d ≡ true
   unfolding statesOpenOn periodsWithin
   day-hit d p l h =
-      on (between (n .first) (n .last) (dayNumber (b .time) d))
-      (λ e. rw (e, some-hit (periodsAt (b .time .codes) d) (onPeriod b n s d) p (rw e at l) h))
+      on (between (n .first) (n .last) (dayNumber (b .setting .time) d))
+      (λ e. rw (e, some-hit (periodsAt (b .setting .time .codes) d) (onPeriod b n s d) p (rw e at l) h))
       (λ e. absurd (omega (arith, rw e at l)))
 
   -- the periods before the first open one are no hit, and from there on all are open
-  pub closed-miss : (d : ℕ) → someBelow (b .time .closed - gatesBefore (b .time .codes) d) (onPeriod b n s d) ≡ false
+  pub closed-miss : (d : ℕ) → someBelow (b .setting .time .closed - gatesBefore (b .setting .time .codes) d) (onPeriod b n s d) ≡ false
   unfolding isOpenAt
   closed-miss d =
-      some-all (b .time .closed - gatesBefore (b .time .codes) d) (onPeriod b n s d)
-      (λ k l. rw (le-ltb (b .time .closed) (gatesBefore (b .time .codes) d + suc k) (omega arith)))
+      some-all (b .setting .time .closed - gatesBefore (b .setting .time .codes) d) (onPeriod b n s d)
+      (λ k l. rw (le-ltb (b .setting .time .closed) (gatesBefore (b .setting .time .codes) d + suc k) (omega arith)))
 
-  pub open-period : (d p : ℕ) → b .time .closed - gatesBefore (b .time .codes) d ≤ p → onPeriod b n s d p ≡ statesAt b n s d (suc p)
+  pub open-period : (d p : ℕ) → b .setting .time .closed - gatesBefore (b .setting .time .codes) d ≤ p → onPeriod b n s d p ≡ statesAt b n s d (suc p)
   unfolding isOpenAt
-  open-period d p l = rw (lt-ltb (b .time .closed) (gatesBefore (b .time .codes) d + suc p) (omega arith))
+  open-period d p l = rw (lt-ltb (b .setting .time .closed) (gatesBefore (b .setting .time .codes) d + suc p) (omega arith))
 
-  pub from-miss : (d p : ℕ) → someBelow p (λ (q : ℕ). statesAt b n s d (suc q)) ≡ false → periodsFrom (b .time) (n .first) d ≤ p → fromFirst b n s d ≡ false
+  pub from-miss : (d p : ℕ) → someBelow p (λ (q : ℕ). statesAt b n s d (suc q)) ≡ false → periodsFrom (b .setting .time) (n .first) d ≤ p → fromFirst b n s d ≡ false
   unfolding statesOn periodsFrom
   from-miss d p none l =
-      on (n .first ≤? dayNumber (b .time) d)
-      (λ e. rw (e, some-upto (λ (q : ℕ). statesAt b n s d (suc q)) p (periodsAt (b .time .codes) d) none (rw e at l)))
+      on (n .first ≤? dayNumber (b .setting .time) d)
+      (λ e. rw (e, some-upto (λ (q : ℕ). statesAt b n s d (suc q)) p (periodsAt (b .setting .time .codes) d) none (rw e at l)))
       (λ e. rw e)
 
-  pub from-hit : (d p : ℕ) → p < periodsFrom (b .time) (n .first) d → statesAt b n s d (suc p) ≡ true → fromFirst b n s d ≡ true
+  pub from-hit : (d p : ℕ) → p < periodsFrom (b .setting .time) (n .first) d → statesAt b n s d (suc p) ≡ true → fromFirst b n s d ≡ true
   unfolding statesOn periodsFrom
   from-hit d p l h =
-      on (n .first ≤? dayNumber (b .time) d)
-      (λ e. rw (e, some-hit (periodsAt (b .time .codes) d) (λ (q : ℕ). statesAt b n s d (suc q)) p (rw e at l) h))
+      on (n .first ≤? dayNumber (b .setting .time) d)
+      (λ e. rw (e, some-hit (periodsAt (b .setting .time .codes) d) (λ (q : ℕ). statesAt b n s d (suc q)) p (rw e at l) h))
       (λ e. absurd (omega (arith, rw e at l)))
 
 -- ---- the sides that are written, by the row of its authorisation
@@ -128,11 +129,11 @@ module _ (b : Book) (n : messages.Notification) (row : setups.Authorisation) (e 
 -- ---- rows, identifiers and days
 
 -- an entry that is not 0 holds the number before it
-pub other-held : (b : Books.Book contracts) (n : Notification contracts) (entry : ℕ) → entry ≢ 0
-    → isOther b n entry ≡ not ((entry - 1) =? n .identifier) && sameAccounts (originIn (b .rows) entry) (under b n)
+pub other-held : (s : Setting) (n : Notification contracts) (entry : ℕ) → entry ≢ 0
+    → isOther s n entry ≡ not ((entry - 1) =? n .identifier) && sameAccounts (originIn (s .rows) entry) (under s n)
 unfolding isOther
-other-held b n zero h = absurd (h refl)
-other-held b n (suc i) h = let q : suc i - 1 ≡ i = omega arith in rw q
+other-held s n zero h = absurd (h refl)
+other-held s n (suc i) h = let q : suc i - 1 ≡ i = omega arith in rw q
 
 module _ (t : Time) (first d : ℕ) where
   pub from-before : dayNumber t d < first → periodsFrom t first d ≡ 0
@@ -176,10 +177,6 @@ place-inside b side1 side2 s d p f hd hp = record { in1 = omega (arith, f .in1);
 -- ---- what does not read a table
 
 module _ (b : Book) (held : List ℕ) (side1 side2 : List ℤ) (n : Notification contracts) where
-  pub other-any : (entry : ℕ) → isOther (bookOf b held side1 side2) n entry ≡ isOther (bookOf b [] [] []) n entry
-  unfolding isOther
-  other-any entry = refl
-
   -- "its identifier is held": by its slot
   pub replaced-not : length held ≤ find (suc (n .identifier)) held → isReplacement (bookOf b held side1 side2) n ≡ false
   unfolding isReplacement isHeld

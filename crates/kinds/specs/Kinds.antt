@@ -49,7 +49,7 @@ pub record SlotInside (b : Book) (side1 side2 : List ℤ) (s : ℕ) : Type 0 whe
 
 -- a slot states something on a day that is not before the notification's first
 abbrev pub fromFirst : Books.Book contracts → Notification contracts → ℕ → ℕ → Bool
-fromFirst b n s d = n .first ≤? dayNumber (b .time) d && statesOn b n s d
+fromFirst b n s d = n .first ≤? dayNumber (b .setting .time) d && statesOn b n s d
 
 -- the tables fit, as a test; and what is answered where they do not
 unfoldable pub fits : Book → ℕ → ℕ → ℕ → Bool

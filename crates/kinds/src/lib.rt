@@ -12,7 +12,7 @@ ghost use Rattle.meaning.specs.Authorisations.{rowAt};
 ghost use Rattle.meaning.specs.Notifications.{isReplacement, isOther, overlaps, kindOf, kindNumber};
 ghost use Rattle.messages.specs.Structs.{notificationOf};
 ghost use Rattle.setups.specs.Structs.{noAuthorisation, rowOf};
-ghost use Rattle.book.specs.Structs.{timeIn, rowsIn, originPlace, bookOf};
+ghost use Rattle.book.specs.Structs.{timeIn, rowsIn, originPlace, settingIn, bookOf};
 ghost use Rattle.kinds.specs.Kinds.{Fits, Inside, placeOf, statesPlace, periodsFrom, periodsWithin, SlotInside, fromFirst, fits, kindAnswer};
 
 const INITIAL: u8 = 1;
@@ -45,7 +45,7 @@ fn is_other(
     mine: setups::Authorisation,
 ) -> bool
     requires { ⌜ (row ≡ getD (b .setup .rows) (originPlace entry) noAuthorisation) × (rowOf mine ≡ rowAt (rowsIn (b .setup)) (n .authorisation)) ⌝ }
-    ensures { λ r. ⌜ r ≡ isOther (bookOf b [] [] []) (notificationOf n) entry ⌝ }
+    ensures { λ r. ⌜ r ≡ isOther (settingIn b) (notificationOf n) entry ⌝ }
 {
     if entry == 0 {
         return false;

@@ -12,8 +12,9 @@ use Rattle.words.specs.Rules.{answer}
 use Rattle.laws.proofs.Cases.{on}
 use Rattle.laws.proofs.Rules.{answer-none}
 use Rattle.laws.proofs.Sums.{sum-ext}
-use Rattle.meaning.specs.Time.{dayOf, isPeriod}
+use Rattle.meaning.specs.Time.{dayOf, isPeriod, periodsOn}
 use Rattle.meaning.specs.Authorisations.{Authorisation, rowAt}
+use Rattle.meaning.specs.Settings.{Setting}
 use Rattle.meaning.specs.Ledgers.{contracts, originatorOf, isHeld, slotOf, one, two}
 use Rattle.meaning.specs.Books.{Setup, openingRules, Book, openedBook}
 use Rattle.meaning.specs.Calls.{Call}
@@ -22,59 +23,58 @@ use Rattle.meaning.specs.Totals.{matches, seenBy}
 use Rattle.meaning.specs.Bars.{Bar, mapBar, barOf, markRules, seenBar}
 use Rattle.meaning.specs.FromHistory.{countedFromHistory, totalFromHistory, barFromHistory}
 use Rattle.meaning.proofs.Contracts.{contracts-lawful}
-use Rattle.meaning.proofs.History.{after-running, history}
+use Rattle.meaning.proofs.History.{history}
 use Rattle.meaning.proofs.Counted.{volume1, volume2}
 use Rattle.meaning.proofs.Bars.{matched-agreed, seen-answered}
 use Rattle.meaning.proofs.Shown.{agreedPart, unmatched-part}
 
 -- ---- what counts is what is shown as Agreed
 
-module _ (rows : List Authorisation) (events : List (Event contracts)) (account D period : ℕ) where
-  counted-is-agreed : (i : ℕ) → countedFromHistory rows events account D period i ≡ agreedPart (barFromHistory rows events account D period i)
+module _ (s : Setting) (events : List (Event contracts)) (account D period : ℕ) where
+  counted-is-agreed : (i : ℕ) → countedFromHistory s events account D period i ≡ agreedPart (barFromHistory s events account D period i)
   unfolding countedFromHistory barFromHistory
   counted-is-agreed i =
-      let v = decides rows events i one D period in
-      let w = decides rows events i two D period in
-      let sees = seenBy (rowAt rows (originatorOf i)) account in
+      let v = decides events i one D (periodsOn (s .time) D) period in
+      let w = decides events i two D (periodsOn (s .time) D) period in
+      let sees = seenBy (rowAt (s .rows) (originatorOf i)) account in
       on (matches v w)
       (λ m. rw m (sym (ap (λ (x : Bar ℤ). agreedPart (mapBar sees x)) (matched-agreed v w m))))
       (λ m. rw m (sym (unmatched-part sees v w m)))
 
-  pub total-is-agreed : totalFromHistory rows events account D period ≡ sumBelowℤ (length rows * 65536) (λ i. agreedPart (barFromHistory rows events account D period i))
+  pub total-is-agreed : totalFromHistory s events account D period ≡ sumBelowℤ (length (s .rows) * 65536) (λ i. agreedPart (barFromHistory s events account D period i))
   unfolding totalFromHistory
   total-is-agreed =
-      sum-ext (length rows * 65536) (countedFromHistory rows events account D period) (λ i. agreedPart (barFromHistory rows events account D period i)) (λ i l. counted-is-agreed i)
+      sum-ext (length (s .rows) * 65536) (countedFromHistory s events account D period) (λ i. agreedPart (barFromHistory s events account D period i)) (λ i l. counted-is-agreed i)
 
 -- ---- a bar by its parts
 
-same-bar : (v v′ w w′ : ℤ) (a a′ : Authorisation) (account : ℕ) → v ≡ v′ → w ≡ w′ → a ≡ a′
-    → mapBar (seenBy a account) (barOf v w) ≡ mapBar (seenBy a′ account) (barOf v′ w′)
-same-bar v v′ w w′ a a′ account p q r = rw (p, q, r)
+same-bar : (v v′ w w′ : ℤ) (a : Authorisation) (account : ℕ) → v ≡ v′ → w ≡ w′
+    → mapBar (seenBy a account) (barOf v w) ≡ mapBar (seenBy a account) (barOf v′ w′)
+same-bar v v′ w w′ a account p q = rw (p, q)
 
 module _ (b : Book contracts) (i D period : ℕ) (h : isHeld (b .ledger .held) i ≡ true) where
-  standing-first : volume1 b (dayOf (b .time) D) period (slotOf (b .ledger .held) i) ≡ standing b i one D period
+  standing-first : volume1 b (dayOf (b .setting .time) D) period (slotOf (b .ledger .held) i) ≡ standing b i one D period
   unfolding standing
   standing-first = rw h
 
-  standing-second : volume2 b (dayOf (b .time) D) period (slotOf (b .ledger .held) i) ≡ standing b i two D period
+  standing-second : volume2 b (dayOf (b .setting .time) D) period (slotOf (b .ledger .held) i) ≡ standing b i two D period
   unfolding standing
   standing-second = rw h
 
 -- ---- after any calls on an opened book
 
 module _ (setup : Setup) (slots lent1 lent2 : ℕ) (opening : answer (openingRules setup slots lent1 lent2) ≡ 0) (calls : List (Call contracts))
-    (account D period i : ℕ) (p : isPeriod (openedBook contracts setup slots .time) D period ≡ true) where
+    (account D period i : ℕ) (p : isPeriod (after (openedBook contracts setup slots) calls .setting .time) D period ≡ true) where
   abbrev book : Book contracts
   book = after (openedBook contracts setup slots) calls
 
   -- what an account that may ask is shown of an identifier
   pub bar-from-history : answer (markRules book i account D period) ≡ 0
-      → seenBar book i account D period ≡ barFromHistory (setup .rows) (eventsOf (openedBook contracts setup slots) calls) account D period i
-  unfolding barFromHistory markRules openedBook
+      → seenBar book i account D period ≡ barFromHistory (book .setting) (eventsOf (openedBook contracts setup slots) calls) account D period i
+  unfolding barFromHistory markRules
   bar-from-history e =
       let h = not-false (isHeld (book .ledger .held) i) (answer-none (markRules book i account D period) refl e 1) in
       seen-answered book i D period account e
-      ∙ same-bar _ _ _ _ _ _ account
+      ∙ same-bar _ _ _ _ (rowAt (book .setting .rows) (originatorOf i)) account
       (standing-first book i D period h ∙ history contracts-lawful setup slots lent1 lent2 opening calls i one D period p)
       (standing-second book i D period h ∙ history contracts-lawful setup slots lent1 lent2 opening calls i two D period p)
-      (ap (λ (rows : List Authorisation). rowAt rows (originatorOf i)) (after-running contracts-lawful setup slots lent1 lent2 opening calls .1 .rows))

@@ -14,8 +14,8 @@ use Rattle.words.specs.Runs.{step}
 use Rattle.laws.proofs.Cases.{and-false, or-false}
 use Rattle.laws.proofs.Lists.{find-replicate}
 use Rattle.laws.proofs.Runs.{foldl, foldl-any, run-keeps, run-folds, refused-nothing}
-use Rattle.meaning.specs.Time.{Time, isOpenAt, gatesBefore, days, dayOf, isPeriod, isOpen, withGateClosed}
-use Rattle.meaning.specs.Authorisations.{Authorisation}
+use Rattle.meaning.specs.Time.{isOpenAt, gatesBefore, days, dayOf, isPeriod, periodsOn, isOpen, withGateClosed}
+use Rattle.meaning.specs.Settings.{Setting}
 use Rattle.meaning.specs.Ledgers.{Sort, index, at, isHeld, Side, side, emptyLedger}
 use Rattle.meaning.specs.Messages.{notification, nullification, about, heldAfter, written}
 use Rattle.meaning.specs.Books.{Setup, openingRules, Book, openedBook}
@@ -30,7 +30,7 @@ use Rattle.meaning.proofs.Held.{with-holds, unheld-is}
 use Rattle.meaning.proofs.Accepted.{call-passes}
 use Rattle.meaning.proofs.Keeps.{keeps}
 use Rattle.meaning.proofs.Moves.{concerns-is, moves, stands-held, unheld-nothing}
-use Rattle.meaning.proofs.History.{SameBook, same-book, act-same, same-period, after-running, history}
+use Rattle.meaning.proofs.History.{period-back, after-Sound, history}
 
 -- ---- a refused call
 
@@ -45,63 +45,62 @@ module _ {K : Sort} where
 
   -- ---- closed places
 
-  closed-concerns : (rows : List Authorisation) (i : ℕ) (σ : Side) (D period : ℕ) (t : Time) (c : Call K)
-      → isOpen t D period ≡ false → concerns rows i σ D period t c ≡ false
+  closed-concerns : (i : ℕ) (σ : Side) (D period : ℕ) (s : Setting) (c : Call K)
+      → isOpen (s .time) D period ≡ false → concerns i σ D period s c ≡ false
   unfolding concerns
-  closed-concerns rows i σ D period t gate e = refl
-  closed-concerns rows i σ D period t (message m) e = concerns-is rows i σ D period t m ∙ rw e (and-false (about rows m i σ))
+  closed-concerns i σ D period s gate e = refl
+  closed-concerns i σ D period s (message m) e = concerns-is i σ D period s m ∙ rw e (and-false (about (s .rows) m i σ))
 
-  closed-stays : (b : Book K) (D period : ℕ) (c : Call K) → isOpen (b .time) D period ≡ false → isOpen (act b c .time) D period ≡ false
+  closed-stays : (b : Book K) (D period : ℕ) (c : Call K) → isOpen (b .setting .time) D period ≡ false → isOpen (act b c .setting .time) D period ≡ false
   unfolding act withGateClosed isOpenAt
   closed-stays b D period gate e =
-      le-ltb (suc (b .time .closed)) (gatesBefore (b .time .codes) (dayOf (b .time) D) + period) (omega (arith, ltb-false (b .time .closed) _ e))
+      le-ltb (suc (b .setting .time .closed)) (gatesBefore (b .setting .time .codes) (dayOf (b .setting .time) D) + period) (omega (arith, ltb-false (b .setting .time .closed) _ e))
   closed-stays b D period (message m) e = e
 
--- a place whose gate is closed never changes again, whatever calls follow
+-- a place whose gate is closed never changes again, whatever calls follow, as long as the book has it
 module _ {K : Sort} (lawful : Lawful K) (i : ℕ) (σ : Side) (D period : ℕ) where
   pub record ClosedAs (b b′ : Book K) : Type 0 where
     pub sound : Sound b′
-    pub same : SameBook b b′
-    pub closed : isOpen (b′ .time) D period ≡ false
-    pub stands : standing b′ i σ D period ≡ standing b i σ D period
+    pub closed : isOpen (b′ .setting .time) D period ≡ false
+    pub stands : isPeriod (b′ .setting .time) D period ≡ true → standing b′ i σ D period ≡ standing b i σ D period
 
-  pub closed-never-changes : (b : Book K) → Sound b → isPeriod (b .time) D period ≡ true → isOpen (b .time) D period ≡ false
-      → (calls : List (Call K)) → standing (after b calls) i σ D period ≡ standing b i σ D period
+  pub closed-never-changes : (b : Book K) → Sound b → isOpen (b .setting .time) D period ≡ false
+      → (calls : List (Call K)) → isPeriod (after b calls .setting .time) D period ≡ true → standing (after b calls) i σ D period ≡ standing b i σ D period
   unfolding after
-  closed-never-changes b s p e calls =
+  closed-never-changes b s e calls p =
       (run-keeps accepted act event (ClosedAs b)
       (λ b′ c a g.
       record {
         sound = keeps lawful b′ c a (g .sound);
-        same = act-same b b′ c (g .same);
         closed = closed-stays b′ D period c (g .closed);
-        stands =
-            moves lawful b′ (g .sound) i σ D period (same-period (g .same) D period p) c a
-            ∙ rw (closed-concerns (b′ .rows) i σ D period (b′ .time) c (g .closed)) (g .stands);
+        stands = λ q.
+            let was = period-back b′ c D period q in
+            moves lawful b′ (g .sound) i σ D period was c a
+            ∙ rw (closed-concerns i σ D period (b′ .setting) c (g .closed)) (g .stands was);
       })
-      calls b (record { sound = s; same = same-book b; closed = e; stands = refl })) .stands
+      calls b (record { sound = s; closed = e; stands = λ q. refl })) .stands p
 
 -- ---- every stored volume
 
 module _ {K : Sort} (lawful : Lawful K) (setup : Setup) (slots lent1 lent2 : ℕ) (opening : answer (openingRules setup slots lent1 lent2) ≡ 0)
     (calls : List (Call K)) (k : ℕ) (σ : Side) (D period : ℕ) (hk : k < length (after (openedBook K setup slots) calls .ledger .held))
-    (p : isPeriod (openedBook K setup slots .time) D period ≡ true) where
+    (p : isPeriod (after (openedBook K setup slots) calls .setting .time) D period ≡ true) where
   -- the volume that is stored for a slot's day and period
   abbrev pub stored : K .Val
   stored =
       let b = after (openedBook K setup slots) calls in
-      at K (days (b .time)) (side (b .ledger) σ) k (dayOf (b .time) D) period
+      at K (days (b .setting .time)) (side (b .ledger) σ) k (dayOf (b .setting .time) D) period
 
   -- a slot that holds an identifier stores what the history says of it
   pub stored-held : (i : ℕ) → getD (after (openedBook K setup slots) calls .ledger .held) k 0 ≡ suc i
-      → stored ≡ decides (setup .rows) (eventsOf (openedBook K setup slots) calls) i σ D period
+      → stored ≡ decides (eventsOf (openedBook K setup slots) calls) i σ D (periodsOn (after (openedBook K setup slots) calls .setting .time) D) period
   unfolding at
   stored-held i e =
       let b = after (openedBook K setup slots) calls in
-      let s = after-running lawful setup slots lent1 lent2 opening calls .0 in
+      let s = after-Sound lawful setup slots lent1 lent2 opening calls in
       let own = s .slots k i hk e .own in
       let here : find (suc i) (b .ledger .held) < length (b .ledger .held) = rw own hk in
-      sym (stands-held b i σ D period here ∙ ap (λ (x : ℕ). getD (side (b .ledger) σ) (index (days (b .time)) x (dayOf (b .time) D) period) (K .nothing)) own)
+      sym (stands-held b i σ D period here ∙ ap (λ (x : ℕ). getD (side (b .ledger) σ) (index (days (b .setting .time)) x (dayOf (b .setting .time) D) period) (K .nothing)) own)
       ∙ history lawful setup slots lent1 lent2 opening calls i σ D period p
 
   -- an unheld slot stores nothing
@@ -109,14 +108,14 @@ module _ {K : Sort} (lawful : Lawful K) (setup : Setup) (slots lent1 lent2 : ℕ
   unfolding at
   stored-unheld z =
       let b = after (openedBook K setup slots) calls in
-      let r = after-running lawful setup slots lent1 lent2 opening calls in
-      let w = is-period-on (b .time) D period (same-period (r .1) D period p) .1 in
-      let hd : dayOf (b .time) D < days (b .time) = w .day in
+      let r = after-Sound lawful setup slots lent1 lent2 opening calls in
+      let w = is-period-on (b .setting .time) D period p .1 in
+      let hd : dayOf (b .setting .time) D < days (b .setting .time) = w .day in
       let h1 : 1 ≤ period = w .low in
       let h50 : period ≤ 50 = w .most in
-      let j = index (days (b .time)) k (dayOf (b .time) D) period in
-      unheld-nothing lawful b (r .0) σ j (rw (length-side b (r .0) σ) (index-lt (days (b .time)) k hd h1 h50 hk))
-      (rw (slot-index (days (b .time)) k hd h1 h50) z)
+      let j = index (days (b .setting .time)) k (dayOf (b .setting .time) D) period in
+      unheld-nothing lawful b r σ j (rw (length-side b r σ) (index-lt (days (b .setting .time)) k hd h1 h50 hk))
+      (rw (slot-index (days (b .setting .time)) k hd h1 h50) z)
 
 -- ---- the identifiers that are held, and their slots
 

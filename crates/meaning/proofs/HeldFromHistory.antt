@@ -8,6 +8,7 @@ use native.Mathlib.Omega.{arith}
 use lib.Dec.{eqb}
 use lib.IntN.{pos}
 use lib.ListN.{length, getD, length-set, length-replicate}
+use borrow.Author.Tests.{ltb-true}
 use Rattle.words.specs.Below.{sumBelowℤ}
 use Rattle.words.specs.Lists.{any, different, once}
 use Rattle.words.specs.Rules.{answer}
@@ -24,7 +25,7 @@ use Rattle.meaning.specs.History.{Event, event, after, eventsOf}
 use Rattle.meaning.specs.FromHistory.{notifies, wasAccepted, identifierIn, identifiersIn, acceptedIdentifiers}
 use Rattle.meaning.proofs.Sound.{Lawful}
 use Rattle.meaning.proofs.Accepted.{call-passes}
-use Rattle.meaning.proofs.History.{after-running}
+use Rattle.meaning.proofs.History.{after-Sound}
 use Rattle.meaning.proofs.Corollaries.{held-when-accepted}
 use Rattle.meaning.proofs.Filled.{Filled, filled-more}
 
@@ -133,23 +134,23 @@ below-all i n h = omega arith
 
 module _ {K : Sort} (lawful : Lawful K) (setup : Setup) (slots lent1 lent2 : ℕ) (opening : answer (openingRules setup slots lent1 lent2) ≡ 0)
     (calls : List (Call K)) where
+  abbrev book : Book K
+  book = after (openedBook K setup slots) calls
+
   abbrev events : List (Event K)
   events = eventsOf (openedBook K setup slots) calls
 
-  pub accepted-below : (k : ℕ) → k < length (acceptedIdentifiers events) → getD (acceptedIdentifiers events) k 0 < length (setup .rows) * 65536
-  unfolding openedBook
+  pub accepted-below : (k : ℕ) → k < length (acceptedIdentifiers events) → getD (acceptedIdentifiers events) k 0 < length (book .setting .rows) * 65536
   accepted-below k l =
-      let b = after (openedBook K setup slots) calls in
-      let r = after-running lawful setup slots lent1 lent2 opening calls in
       let i = getD (acceptedIdentifiers events) k 0 in
-      let inside : k < length (b .ledger .held) = omega (arith, accepted-fit {K = K} setup slots calls, after-slots {K = K} setup slots calls) in
-      let o : originatorOf i < length (setup .rows) = rw (r .1 .rows) at (r .0 .slots k i inside (slot-holds-next setup slots calls k l) .originator) in
-      below-all i (length (setup .rows)) o
+      let inside : k < length (book .ledger .held) = omega (arith, accepted-fit {K = K} setup slots calls, after-slots {K = K} setup slots calls) in
+      let known = after-Sound lawful setup slots lent1 lent2 opening calls .slots k i inside (slot-holds-next setup slots calls k l) .originator in
+      below-all i (length (book .setting .rows)) (ltb-true (originatorOf i) (length (book .setting .rows)) known)
 
   -- how many they are, counted over every identifier that can be
-  pub accepted-counted : sumBelowℤ (length (setup .rows) * 65536) (λ (i : ℕ). cond (wasAccepted events i) (pos 1) (pos 0)) ≡ pos (length (acceptedIdentifiers events))
+  pub accepted-counted : sumBelowℤ (length (book .setting .rows) * 65536) (λ (i : ℕ). cond (wasAccepted events i) (pos 1) (pos 0)) ≡ pos (length (acceptedIdentifiers events))
   accepted-counted =
       let ids = acceptedIdentifiers events in
-      sum-ext (length (setup .rows) * 65536) (λ (i : ℕ). cond (wasAccepted events i) (pos 1) (pos 0)) (λ (i : ℕ). cond (any (eqb i) ids) (pos 1) (pos 0))
+      sum-ext (length (book .setting .rows) * 65536) (λ (i : ℕ). cond (wasAccepted events i) (pos 1) (pos 0)) (λ (i : ℕ). cond (any (eqb i) ids) (pos 1) (pos 0))
       (λ i l. rw (listed-exactly i events))
-      ∙ count-among (length (setup .rows) * 65536) ids (listed-once events) accepted-below
+      ∙ count-among (length (book .setting .rows) * 65536) ids (listed-once events) accepted-below

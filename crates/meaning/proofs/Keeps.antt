@@ -12,10 +12,11 @@ use Rattle.words.specs.Lists.{any}
 use Rattle.words.specs.Rules.{answer}
 use Rattle.laws.proofs.Cases.{on, by-lt, and-left, and-right, or-left, or-right, or-true}
 use Rattle.laws.proofs.Lists.{getD-replicate-same}
-use Rattle.meaning.specs.Time.{Time, isPeriodAt, days, dayNumber, withGateClosed}
+use Rattle.meaning.specs.Time.{Time, periodsAt, isPeriodAt, days, dayNumber, withGateClosed}
 use Rattle.meaning.specs.Authorisations.{Authorisation}
 use Rattle.meaning.specs.Ledgers.{Sort, stands, slotAt, dayAt, periodAt, places, holds, Ledger, Side, one, two, side, emptyLedger}
-use Rattle.meaning.specs.Messages.{Entry, Message, notification, nullification, about, leaves, volume, says, reaches, rewritten, heldAfter, written}
+use Rattle.meaning.specs.Messages.{Entry, Message, notification, nullification, about, leaves, sourceOf, volume, volumeOn, says, reaches, rewritten, heldAfter, written}
+use Rattle.meaning.specs.Settings.{known}
 use Rattle.meaning.specs.Books.{Setup, openingRules, Book, openedBook}
 use Rattle.meaning.specs.Soundness.{placeRight, sound}
 use Rattle.meaning.specs.Calls.{Call, gate, message, accepted, act}
@@ -87,7 +88,7 @@ module _ {K : Sort} (lawful : Lawful K) where
   unfolding act withGateClosed
   gate-keeps b p s = record { setup = s .setup; clock = p .open-gate; slots = s .slots; place = side-same }
     where
-      side-same : (σ : Side) (j : ℕ) → j < length (side (b .ledger) σ) → placeRight K (b .time .codes) (b .ledger .held) j (getD (side (b .ledger) σ) j (K .nothing)) ≡ true
+      side-same : (σ : Side) (j : ℕ) → j < length (side (b .ledger) σ) → placeRight K (b .setting .time .codes) (b .ledger .held) j (getD (side (b .ledger) σ) j (K .nothing)) ≡ true
       side-same σ j h = s .place σ j h
 
   -- ---- a message
@@ -116,13 +117,13 @@ module _ {K : Sort} (lawful : Lawful K) where
   abbrev Right : Book K → Message K → Type 0
   Right b m = any (λ (e : Entry K). not (K .inRange (e .volume))) (leaves m .entries) ≡ false
 
-  says-right : (codes held : List ℕ) (m : Message K) (j D : ℕ) → any (λ (e : Entry K). not (K .inRange (e .volume))) (leaves m .entries) ≡ false
+  says-right : (codes held : List ℕ) (m : Message K) (j D periods : ℕ) → any (λ (e : Entry K). not (K .inRange (e .volume))) (leaves m .entries) ≡ false
       → 0 < getD held (slotAt (length codes) j) 0 → isPeriodAt codes (dayAt (length codes) j) (periodAt j) ≡ true
-      → placeRight K codes held j (says (leaves m) D (periodAt j)) ≡ true
-  unfolding says
-  says-right codes held m j D r h p =
+      → placeRight K codes held j (says (leaves m) D periods (periodAt j)) ≡ true
+  unfolding says volumeOn
+  says-right codes held m j D periods r h p =
       on (ltb D (leaves m .until))
-      (λ q. rw q (volume-right codes held j (volume (leaves m .entries) (periodAt j)) (volume-in-range (leaves m .entries) (periodAt j) r) h p))
+      (λ q. rw q (volume-right codes held j _ (volume-in-range (leaves m .entries) (sourceOf (leaves m .single) periods (periodAt j)) r) h p))
       (λ q. rw q (nothing-right codes held j))
 
   holds-held : (f : ℕ → Bool) (e : ℕ) → holds f e ≡ true → 0 < e
@@ -131,19 +132,19 @@ module _ {K : Sort} (lawful : Lawful K) where
 
   module _ (b : Book K) (s : Sound b) (m : Message K) (right : any (λ (e : Entry K). not (K .inRange (e .volume))) (leaves m .entries) ≡ false)
       (held-more : (k : ℕ) → 0 < getD (b .ledger .held) k 0 → 0 < getD (heldAfter m (b .ledger .held)) k 0)
-      (slots-right : (k i : ℕ) → k < length (b .ledger .held) → getD (heldAfter m (b .ledger .held)) k 0 ≡ suc i → SlotHolds (length (b .rows)) (heldAfter m (b .ledger .held)) k i) where
+      (slots-right : (k i : ℕ) → k < length (b .ledger .held) → getD (heldAfter m (b .ledger .held)) k 0 ≡ suc i → SlotHolds (known (b .setting)) (heldAfter m (b .ledger .held)) k i) where
     place-keeps : (σ : Side) (j : ℕ) → j < length (side (b .ledger) σ)
-        → placeRight K (b .time .codes) (heldAfter m (b .ledger .held)) j (getD (rewritten (b .rows) (b .time) m (heldAfter m (b .ledger .held)) σ (side (b .ledger) σ)) j (K .nothing)) ≡ true
+        → placeRight K (b .setting .time .codes) (heldAfter m (b .ledger .held)) j (getD (rewritten (b .setting .rows) (b .setting .time) m (heldAfter m (b .ledger .held)) σ (side (b .ledger) σ)) j (K .nothing)) ≡ true
     place-keeps σ j h =
         let held = heldAfter m (b .ledger .held) in
-        let t = b .time in
+        let t = b .setting .time in
         let d = dayAt (days t) j in
-        let mine = holds (λ (i : ℕ). about (b .rows) m i σ) (getD held (slotAt (days t) j) 0) in
-        rw (rewritten-at (b .rows) t m held σ (side (b .ledger) σ) j h)
+        let mine = holds (λ (i : ℕ). about (b .setting .rows) m i σ) (getD held (slotAt (days t) j) 0) in
+        rw (rewritten-at (b .setting .rows) t m held σ (side (b .ledger) σ) j h)
         (on (mine && reaches t m d (periodAt j))
         (λ e. rw e
-        (says-right (t .codes) held m j (dayNumber t d) right
-        (holds-held (λ (i : ℕ). about (b .rows) m i σ) (getD held (slotAt (days t) j) 0) (and-left mine (reaches t m d (periodAt j)) e))
+        (says-right (t .codes) held m j (dayNumber t d) (periodsAt (t .codes) d) right
+        (holds-held (λ (i : ℕ). about (b .setting .rows) m i σ) (getD held (slotAt (days t) j) 0) (and-left mine (reaches t m d (periodAt j)) e))
         (reaches-period t m d (periodAt j) (and-right mine (reaches t m d (periodAt j)) e))))
         (λ e. rw e (still-right (t .codes) (b .ledger .held) held j _ (held-more (slotAt (days t) j)) (s .place σ j h))))
 
@@ -151,17 +152,17 @@ module _ {K : Sort} (lawful : Lawful K) where
     unfolding act written
     message-keeps-parts =
         record {
-          setup = rw (length-heldAfter m (b .ledger .held), length-rewritten (b .rows) (b .time) m (heldAfter m (b .ledger .held)) one (b .ledger .side1), length-rewritten (b .rows) (b .time) m (heldAfter m (b .ledger .held)) two (b .ledger .side2)) (s .setup);
+          setup = rw (length-heldAfter m (b .ledger .held), length-rewritten (b .setting .rows) (b .setting .time) m (heldAfter m (b .ledger .held)) one (b .ledger .side1), length-rewritten (b .setting .rows) (b .setting .time) m (heldAfter m (b .ledger .held)) two (b .ledger .side2)) (s .setup);
           clock = s .clock;
           slots = λ k i hk e. slots-right k i (rw length-heldAfter at hk) e;
           place = side-keeps;
         }
       where
-        side-keeps : (σ : Side) (j : ℕ) → j < length (side (written (b .rows) (b .time) m (b .ledger)) σ)
-            → placeRight K (b .time .codes) (heldAfter m (b .ledger .held)) j (getD (side (written (b .rows) (b .time) m (b .ledger)) σ) j (K .nothing)) ≡ true
+        side-keeps : (σ : Side) (j : ℕ) → j < length (side (written (b .setting .rows) (b .setting .time) m (b .ledger)) σ)
+            → placeRight K (b .setting .time .codes) (heldAfter m (b .ledger .held)) j (getD (side (written (b .setting .rows) (b .setting .time) m (b .ledger)) σ) j (K .nothing)) ≡ true
         side-keeps σ j h =
             rw side-written
-            (place-keeps σ j (rw (side-written (b .rows) (b .time) m (b .ledger) σ, length-rewritten) at h))
+            (place-keeps σ j (rw (side-written (b .setting .rows) (b .setting .time) m (b .ledger) σ, length-rewritten) at h))
 
   message-keeps : (b : Book K) (m : Message K) → CallPasses b (message m) → Sound b → Sound (act b (message m))
   unfolding leaves heldAfter any

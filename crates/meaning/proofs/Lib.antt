@@ -42,6 +42,7 @@ pub mod EntryValues
 pub mod MessageValues
 pub mod PackedMessageRules
 pub mod PackedCalls
+pub mod OnlyClock
 pub mod Applied
 pub mod LayoutSizes
 pub mod ReadMore

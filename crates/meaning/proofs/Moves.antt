@@ -11,8 +11,9 @@ use borrow.Author.Tests.{lt-ltb, le-ltb, ne-eqb}
 use Rattle.words.specs.Lists.{find}
 use Rattle.laws.proofs.Cases.{on, by-lt, by-eq, and-right, and-assoc, same-either}
 use Rattle.laws.proofs.Lists.{find-at}
-use Rattle.meaning.specs.Time.{Time, isPeriodAt, days, dayNumber, dayOf, isPeriod, isOpen, withGateClosed}
-use Rattle.meaning.specs.Authorisations.{Authorisation, rowAt, isPair}
+use Rattle.meaning.specs.Time.{isPeriodAt, days, dayNumber, dayOf, isPeriod, periodsOn, isOpen, withGateClosed}
+use Rattle.meaning.specs.Authorisations.{rowAt, isPair}
+use Rattle.meaning.specs.Settings.{Setting}
 use Rattle.meaning.specs.Ledgers.{Sort, index, slotAt, at, originatorOf, Side, side}
 use Rattle.meaning.specs.Messages.{Message, notification, nullification, about, from, leaves, says, rewritten, heldAfter, written}
 use Rattle.meaning.specs.Books.{Book}
@@ -31,26 +32,26 @@ use Rattle.meaning.proofs.Keeps.{length-heldAfter, side-written}
 
 module _ {K : Sort} where
   -- the place that a message concerns is one that it is about, that was open, and from its first day on
-  pub concerns-is : (rows : List Authorisation) (i : ℕ) (σ : Side) (D period : ℕ) (t : Time) (m : Message K)
-      → concerns rows i σ D period t (message m) ≡ about rows m i σ && (isOpen t D period && leb (from m) D)
+  pub concerns-is : (i : ℕ) (σ : Side) (D period : ℕ) (s : Setting) (m : Message K)
+      → concerns i σ D period s (message m) ≡ about (s .rows) m i σ && (isOpen (s .time) D period && leb (from m) D)
   unfolding concerns about from
-  concerns-is rows i σ D period t (notification n) = and-assoc (about rows (notification n) i σ) (isOpen t D period) (leb (n .first) D)
-  concerns-is rows i σ D period t (nullification x) = and-assoc (isPair (rowAt rows (originatorOf i)) (x .account) (x .other)) (isOpen t D period) (leb (x .first) D)
+  concerns-is i σ D period s (notification n) = and-assoc (about (s .rows) (notification n) i σ) (isOpen (s .time) D period) (leb (n .first) D)
+  concerns-is i σ D period s (nullification x) = and-assoc (isPair (rowAt (s .rows) (originatorOf i)) (x .account) (x .other)) (isOpen (s .time) D period) (leb (x .first) D)
 
   -- what the document puts at a place is what the customer says that the message gives
-  pub gives-is : (D period : ℕ) (m : Message K) → says (leaves m) D period ≡ gives D period (message m)
+  pub gives-is : (D periods period : ℕ) (m : Message K) → says (leaves m) D periods period ≡ gives D periods period (message m)
   unfolding says leaves gives
-  gives-is D period (notification n) =
+  gives-is D periods period (notification n) =
       by-lt (n .last) D
       (λ h. rw (lt-ltb (n .last) D h, le-ltb D (suc (n .last)) h))
       (λ h. rw (le-ltb (n .last) D h, lt-ltb D (suc (n .last)) (omega arith)))
-  gives-is D period (nullification x) = rw (le-ltb D 0 (omega arith))
+  gives-is D periods period (nullification x) = rw (le-ltb D 0 (omega arith))
 
   -- ---- what stands
 
   module _ (b : Book K) (i : ℕ) (σ : Side) (D period : ℕ) where
     pub stands-held : find (suc i) (b .ledger .held) < length (b .ledger .held)
-        → standing b i σ D period ≡ getD (side (b .ledger) σ) (index (days (b .time)) (find (suc i) (b .ledger .held)) (dayOf (b .time) D) period) (K .nothing)
+        → standing b i σ D period ≡ getD (side (b .ledger) σ) (index (days (b .setting .time)) (find (suc i) (b .ledger .held)) (dayOf (b .setting .time) D) period) (K .nothing)
     unfolding standing at
     stands-held h = rw (held-is (b .ledger .held) i h)
 
@@ -76,20 +77,20 @@ after i (notification n) held r = with-after (n .identifier) held i r
 after i (nullification x) held r = inl refl
 
 -- a message that concerns an identifier, and does not hold it afterwards, gives nothing
-unheld-gives : {K : Sort} (rows : List Authorisation) (i : ℕ) (σ : Side) (D period : ℕ) (t : Time) (m : Message K) (held : List ℕ) → Fits held m
+unheld-gives : {K : Sort} (i : ℕ) (σ : Side) (D periods period : ℕ) (s : Setting) (m : Message K) (held : List ℕ) → Fits held m
     → length held ≤ find (suc i) (heldAfter m held)
-    → cond (concerns rows i σ D period t (message m)) (gives D period (message m)) (K .nothing) ≡ K .nothing
+    → cond (concerns i σ D period s (message m)) (gives D periods period (message m)) (K .nothing) ≡ K .nothing
 unfolding heldAfter concerns gives
-unheld-gives rows i σ D period t (notification n) held r h =
+unheld-gives i σ D periods period s (notification n) held r h =
     by-eq i (n .identifier)
     (λ q. absurd (omega (arith, rw (← q) at (with-now (n .identifier) held r), rw (← q) at h)))
     (λ q. rw (ne-eqb i (n .identifier) q))
-unheld-gives {K} rows i σ D period t (nullification x) held r h =
-    same-either (concerns {K = K} rows i σ D period t (message (nullification x))) (K .nothing)
+unheld-gives {K} i σ D periods period s (nullification x) held r h =
+    same-either (concerns {K = K} i σ D period s (message (nullification x))) (K .nothing)
 
 module _ {K : Sort} (lawful : Lawful K) where
   -- nothing stands in a slot that is unheld
-  pub unheld-nothing : (b : Book K) → Sound b → (σ : Side) (j : ℕ) → j < length (side (b .ledger) σ) → getD (b .ledger .held) (slotAt (days (b .time)) j) 0 ≡ 0
+  pub unheld-nothing : (b : Book K) → Sound b → (σ : Side) (j : ℕ) → j < length (side (b .ledger) σ) → getD (b .ledger .held) (slotAt (days (b .setting .time)) j) 0 ≡ 0
       → getD (side (b .ledger) σ) j (K .nothing) ≡ K .nothing
   unfolding placeRight
   unheld-nothing b s σ j h z =
@@ -98,15 +99,15 @@ module _ {K : Sort} (lawful : Lawful K) where
       (λ e. lawful .same-is v (K .nothing) e)
       (λ e. absurd (unheld-wrong (K .inRange v) _ (rw (e, z) at (s .place σ j h))))
 
-  module _ (b : Book K) (s : Sound b) (i : ℕ) (σ : Side) (D period : ℕ) (p : isPeriod (b .time) D period ≡ true) where
+  module _ (b : Book K) (s : Sound b) (i : ℕ) (σ : Side) (D period : ℕ) (p : isPeriod (b .setting .time) D period ≡ true) where
     -- what a message makes of the place that a slot has for the day and period, if the slot holds the identifier afterwards
     place-moves : (m : Message K) (held : List ℕ) (k : ℕ) → k < length (b .ledger .held) → getD held k 0 ≡ suc i
-        → getD (rewritten (b .rows) (b .time) m held σ (side (b .ledger) σ)) (index (days (b .time)) k (dayOf (b .time) D) period) (K .nothing)
-        ≡ cond (concerns (b .rows) i σ D period (b .time) (message m)) (gives D period (message m))
-        (getD (side (b .ledger) σ) (index (days (b .time)) k (dayOf (b .time) D) period) (K .nothing))
+        → getD (rewritten (b .setting .rows) (b .setting .time) m held σ (side (b .ledger) σ)) (index (days (b .setting .time)) k (dayOf (b .setting .time) D) period) (K .nothing)
+        ≡ cond (concerns i σ D period (b .setting) (message m)) (gives D (periodsOn (b .setting .time) D) period (message m))
+        (getD (side (b .ledger) σ) (index (days (b .setting .time)) k (dayOf (b .setting .time) D) period) (K .nothing))
     unfolding isPeriod
     place-moves m held k hk e =
-        let t = b .time in
+        let t = b .setting .time in
         let d = dayOf t D in
         let w = is-period-on t D period p in
         let hd : d < days t = w .1 .day in
@@ -114,15 +115,15 @@ module _ {K : Sort} (lawful : Lawful K) where
         let h50 : period ≤ 50 = w .1 .most in
         let eD : dayNumber t d ≡ D = omega (arith, w .0) in
         let q : isPeriodAt (t .codes) d period ≡ true = and-right (leb (t .first) D) (isPeriodAt (t .codes) d period) p in
-        rewritten-at (b .rows) t m held σ (side (b .ledger) σ) (index (days t) k d period) (rw (length-side b s σ) (index-lt (days t) k hd h1 h50 hk))
-        ∙ rw (slot-index, day-index, period-index, e, reaches-is t m d period q, eD, concerns-is, ← gives-is D period m)
+        rewritten-at (b .setting .rows) t m held σ (side (b .ledger) σ) (index (days t) k d period) (rw (length-side b s σ) (index-lt (days t) k hd h1 h50 hk))
+        ∙ rw (slot-index, day-index, period-index, e, reaches-is t m d period q, eD, concerns-is, ← gives-is D (periodsOn t D) period m)
 
     pub message-moves : (m : Message K) → Fits (b .ledger .held) m
         → standing (act b (message m)) i σ D period
-        ≡ cond (concerns (b .rows) i σ D period (b .time) (message m)) (gives D period (message m)) (standing b i σ D period)
+        ≡ cond (concerns i σ D period (b .setting) (message m)) (gives D (periodsOn (b .setting .time) D) period (message m)) (standing b i σ D period)
     unfolding act written
     message-moves m r =
-        let t = b .time in
+        let t = b .setting .time in
         let d = dayOf t D in
         let held = heldAfter m (b .ledger .held) in
         let k = find (suc i) held in
@@ -132,7 +133,7 @@ module _ {K : Sort} (lawful : Lawful K) where
         let hd : d < days t = w .1 .day in
         let h1 : 1 ≤ period = w .1 .low in
         let h50 : period ≤ 50 = w .1 .most in
-        let c = concerns (b .rows) i σ D period t (message m) in
+        let c = concerns i σ D period (b .setting) (message m) in
         by-lt k (length held)
         (λ l.
         let kl : k < length (b .ledger .held) = omega arith in
@@ -143,13 +144,13 @@ module _ {K : Sort} (lawful : Lawful K) where
         (λ q. unheld-nothing b s σ j (rw (length-side b s σ) (index-lt (days t) k hd h1 h50 kl)) (rw (slot-index (days t) k hd h1 h50) (q .2)) ∙ sym (stands-unheld b i σ D period (q .0)))
         (after i m (b .ledger .held) r) in
         stands-held b′ i σ D period l
-        ∙ ap (λ (x : List (K .Val)). getD x j (K .nothing)) (side-written lawful (b .rows) t m (b .ledger) σ)
+        ∙ ap (λ (x : List (K .Val)). getD x j (K .nothing)) (side-written lawful (b .setting .rows) t m (b .ledger) σ)
         ∙ place-moves m held k kl (find-at (suc i) held l)
-        ∙ ap (λ (v : K .Val). cond c (gives D period (message m)) v) old)
+        ∙ ap (λ (v : K .Val). cond c (gives D (periodsOn (b .setting .time) D) period (message m)) v) old)
         (λ l.
         let u : standing b i σ D period ≡ K .nothing =
         ⊎-elim (λ q. stands-unheld b i σ D period (omega arith)) (λ q. absurd (omega arith)) (after i m (b .ledger .held) r) in
-        stands-unheld b′ i σ D period l ∙ sym (rw u (unheld-gives (b .rows) i σ D period t m (b .ledger .held) r (omega arith))))
+        stands-unheld b′ i σ D period l ∙ sym (rw u (unheld-gives i σ D (periodsOn t D) period (b .setting) m (b .ledger .held) r (omega arith))))
 
     -- a gate leaves every place as it is
     gate-moves : standing (act b gate) i σ D period ≡ standing b i σ D period
@@ -163,7 +164,7 @@ module _ {K : Sort} (lawful : Lawful K) where
     -- THE STEP of the history
     pub moves : (c : Call K) → accepted b c ≡ true
         → standing (act b c) i σ D period
-        ≡ cond (concerns (b .rows) i σ D period (b .time) c) (gives D period c) (standing b i σ D period)
+        ≡ cond (concerns i σ D period (b .setting) c) (gives D (periodsOn (b .setting .time) D) period c) (standing b i σ D period)
     unfolding concerns
     moves gate a = gate-moves
     moves (message m) a = message-moves m (fits m (call-passes b (message m) a))

@@ -6,6 +6,7 @@ use Prim.Native.Nat.{ℕ}
 use lib.IntN.{pos}
 use Rattle.words.specs.Tests.{if_then_else_, _=?_}
 use Rattle.words.specs.Rules.{Rule, answer}
+use Rattle.meaning.specs.Time.{Time}
 use Rattle.meaning.specs.Authorisations.{Authorisation}
 use Rattle.meaning.specs.Ledgers.{contracts}
 use Rattle.meaning.specs.Books.{Setup, Book, openedBook}
@@ -44,7 +45,8 @@ start = openedBook contracts ourSetup 3
 -- a book with so many gates closed: day 101 is the current day from 48 on, day 102 from 94 on, and 144 are all
 abbrev pub clock : ℕ → Book contracts → Book contracts
 clock closed b =
-    record { time = record { first = b .time .first; codes = b .time .codes; closed = closed }; accounts = b .accounts; rows = b .rows; ledger = b .ledger }
+    let t : Time = record { first = b .setting .time .first; codes = b .setting .time .codes; closed = closed } in
+    record { setting = record { time = t; accounts = b .setting .accounts; rows = b .setting .rows }; ledger = b .ledger }
 
 -- ---- the calls: agent 7, or 9, tells 5 kWh in period 1, under an authorisation and with its key
 

@@ -49,7 +49,7 @@ theRefusedTotals =
 abbrev theLargestTotal : Bool
 theLargestTotal =
     let of : ℤ → Book contracts =
-    λ v. record { time = sales .time; accounts = 3; rows = sales .rows; ledger = record { held = 2 ∷ []; side1 = v ∷ []; side2 = v ∷ [] } } in
+    λ v. record { setting = sales .setting; ledger = record { held = 2 ∷ []; side1 = v ∷ []; side2 = v ∷ [] } } in
     not (meets (totalRules (of (pos 99999999999)) 0 100 1) 26)
     && not (meets (totalRules (of (pos 99999999999)) 1 100 1) 26)
     && meets (totalRules (of (pos 100000000000)) 0 100 1) 26

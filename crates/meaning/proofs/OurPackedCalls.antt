@@ -30,7 +30,7 @@ unsound = clock 145 start
 abbrev applies : Book contracts → List ℕ → ℕ → ℕ → ℕ → ℕ → ℕ → Bool
 applies b bytes number kind slot length closed =
     let a = applied b bytes in
-    a .answer =? number && a .kind =? kind && a .slot =? slot && a .length =? length && a .book .time .closed =? closed
+    a .answer =? number && a .kind =? kind && a .slot =? slot && a .length =? length && a .book .setting .time .closed =? closed
 
 -- 1 before reading's numbers, and those before the message's own; kind and slot of an accepted notification alone; with a refusal all is zero
 abbrev theOneMessage : Bool
@@ -52,7 +52,7 @@ theRun =
     let run = runOn 9 start bytes in
     alike _=?_ (run .answers) (0 ∷ 4 ∷ 0 ∷ 20 ∷ [])
     && run .used =? 33
-    && run .book .time .closed =? 1
+    && run .book .setting .time .closed =? 1
     && runAnswer start =? 0
     && runAnswer unsound =? 1
     && runOn 9 unsound bytes .used =? 0

@@ -24,11 +24,11 @@ theLastGate =
 -- "The current day is the earliest with an open gate."
 abbrev theCurrentDay : Bool
 theCurrentDay =
-    currentDay (clock 0 start .time) =? 100
-    && currentDay (clock 47 start .time) =? 100
-    && currentDay (clock 48 start .time) =? 101
-    && currentDay (clock 93 start .time) =? 101
-    && currentDay (clock 94 start .time) =? 102
+    currentDay (clock 0 start .setting .time) =? 100
+    && currentDay (clock 47 start .setting .time) =? 100
+    && currentDay (clock 48 start .setting .time) =? 101
+    && currentDay (clock 93 start .setting .time) =? 101
+    && currentDay (clock 94 start .setting .time) =? 102
 
 -- "3: authorisation number unknown. 4: key wrong, or agent is neither of its two"
 abbrev theSender : Bool

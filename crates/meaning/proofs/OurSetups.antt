@@ -75,7 +75,7 @@ theWrongRows =
 abbrev theOpened : Bool
 theOpened =
     let marked : List ℤ → Bool = λ vs. length vs =? 450 && every (sameℤ (negℤ (pos 2147483648))) vs in
-    start .time .closed =? 0
+    start .setting .time .closed =? 0
     && alike _=?_ (start .ledger .held) (0 ∷ 0 ∷ 0 ∷ [])
     && marked (start .ledger .side1)
     && marked (start .ledger .side2)
@@ -85,9 +85,7 @@ theOpened =
 abbrev book : List ℕ → List ℤ → List ℤ → Book contracts
 book held side1 side2 =
     record {
-      time = record { first = 100; codes = 0 ∷ []; closed = 0 };
-      accounts = 2;
-      rows = grant 7 9 0 1 500 0 65535 0 ∷ [];
+      setting = record { time = record { first = 100; codes = 0 ∷ []; closed = 0 }; accounts = 2; rows = grant 7 9 0 1 500 0 65535 0 ∷ [] };
       ledger = record { held = held; side1 = side1; side2 = side2 };
     }
 

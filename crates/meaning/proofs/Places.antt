@@ -7,7 +7,7 @@ use native.Mathlib.Omega.{arith}
 use lib.Arith.{digits-lt, digits-div, digits-mod}
 use lib.ListN.{length, getD}
 use Rattle.laws.proofs.Lists.{length-mapAt, getD-mapAt}
-use Rattle.meaning.specs.Time.{Time, days, dayNumber}
+use Rattle.meaning.specs.Time.{Time, periodsAt, days, dayNumber}
 use Rattle.meaning.specs.Authorisations.{Authorisation}
 use Rattle.meaning.specs.Ledgers.{Sort, index, slotAt, dayAt, periodAt, places, holds, Side}
 use Rattle.meaning.specs.Messages.{Message, about, leaves, says, reaches, rewritten}
@@ -42,7 +42,7 @@ module _ {K : Sort} (rows : List Authorisation) (t : Time) (m : Message K) (held
   pub rewritten-at : (j : ℕ) → j < length table
       → getD (rewritten rows t m held σ table) j (K .nothing)
       ≡ cond (holds (λ (i : ℕ). about rows m i σ) (getD held (slotAt (days t) j) 0) && reaches t m (dayAt (days t) j) (periodAt j))
-      (says (leaves m) (dayNumber t (dayAt (days t) j)) (periodAt j))
+      (says (leaves m) (dayNumber t (dayAt (days t) j)) (periodsAt (t .codes) (dayAt (days t) j)) (periodAt j))
       (getD table j (K .nothing))
   unfolding rewritten
   rewritten-at j h = getD-mapAt _ table j (K .nothing) h

@@ -19,7 +19,8 @@ use Rattle.laws.proofs.Sums.{sum-ext}
 use Rattle.meaning.specs.Time.{dayOf, isPeriod}
 use Rattle.meaning.specs.Authorisations.{Authorisation, inPair}
 use Rattle.meaning.specs.Ledgers.{contracts, stands, isHeld, slotOf, originIn, one}
-use Rattle.meaning.specs.Books.{Book, hasAccount}
+use Rattle.meaning.specs.Settings.{hasAccount}
+use Rattle.meaning.specs.Books.{Book}
 use Rattle.meaning.specs.Soundness.{sound}
 use Rattle.meaning.specs.Totals.{matches, seenBy, counted, sumOf, totalRules, total}
 use Rattle.meaning.specs.Bars.{Bar, Blank, OneSide, Agreed, Disagreed, mapBar, barOf, markRules, seenBar}
@@ -56,9 +57,9 @@ module _ (b : Book contracts) (account D period : ℕ) where
     holding =
         find-at (suc i) (b .ledger .held) (is-held (b .ledger .held) i (not-false (isHeld (b .ledger .held) i) (answer-none (markRules b i account D period) refl e 1)))
 
-    pub shown-is-counted : counted b account (dayOf (b .time) D) period (slotOf (b .ledger .held) i) ≡ agreedPart (seenBar b i account D period)
+    pub shown-is-counted : counted b account (dayOf (b .setting .time) D) period (slotOf (b .ledger .held) i) ≡ agreedPart (seenBar b i account D period)
     shown-is-counted =
-        let d = dayOf (b .time) D in
+        let d = dayOf (b .setting .time) D in
         let slot = slotOf (b .ledger .held) i in
         let v = volume1 b d period slot in
         let w = volume2 b d period slot in
@@ -66,7 +67,7 @@ module _ (b : Book contracts) (account D period : ℕ) where
         on (matches v w)
         (λ m.
         counted-matched b d period slot m account
-        ∙ ap (λ (entry : ℕ). seenBy (originIn (b .rows) entry) account v) holding
+        ∙ ap (λ (entry : ℕ). seenBy (originIn (b .setting .rows) entry) account v) holding
         ∙ sym (seen ∙ ap (λ (x : Bar ℤ). agreedPart (mapBar (seenBy (rowFor b i) account) x)) (matched-agreed v w m)))
         (λ m. counted-unmatched b d period slot m account ∙ sym (seen ∙ unmatched-part (seenBy (rowFor b i) account) v w m))
 
@@ -75,9 +76,9 @@ module _ (b : Book contracts) (account D period : ℕ) where
   shownIn zero = pos 0
   shownIn (suc i) = agreedPart (seenBar b i account D period)
 
-  module _ (s : sound b ≡ true) (a : hasAccount b account ≡ true) (p : isPeriod (b .time) D period ≡ true) (k : ℕ) (l : k < length (b .ledger .held)) where
+  module _ (s : sound b ≡ true) (a : hasAccount (b .setting) account ≡ true) (p : isPeriod (b .setting .time) D period ≡ true) (k : ℕ) (l : k < length (b .ledger .held)) where
     abbrev d : ℕ
-    d = dayOf (b .time) D
+    d = dayOf (b .setting .time) D
 
     mark-answered : (i : ℕ) → isHeld (b .ledger .held) i ≡ true → inPair (rowFor b i) account ≡ true → answer (markRules b i account D period) ≡ 0
     unfolding answer markRules
@@ -89,7 +90,7 @@ module _ (b : Book contracts) (account D period : ℕ) where
 
     unheld-shows : getD (b .ledger .held) k 0 ≡ 0 → counted b account d period k ≡ pos 0
     unheld-shows e =
-        let w = is-period-on (b .time) D period p .1 in
+        let w = is-period-on (b .setting .time) D period p .1 in
         on (matches (volume1 b d period k) (volume2 b d period k))
         (λ m.
         let h = standing-slot-held b (parts b s) one k d period l (w .day) (w .low) (w .most) (matches-first (volume1 b d period k) (volume2 b d period k) m) in
@@ -100,7 +101,7 @@ module _ (b : Book contracts) (account D period : ℕ) where
     held-shows i e =
         let own : find (suc i) (b .ledger .held) ≡ k = parts b s .slots k i l e .own in
         let held : isHeld (b .ledger .held) i ≡ true = held-is (b .ledger .held) i (omega (arith, own)) in
-        let row : originIn (b .rows) (getD (b .ledger .held) k 0) ≡ rowFor b i = ap (originIn (b .rows)) e in
+        let row : originIn (b .setting .rows) (getD (b .ledger .held) k 0) ≡ rowFor b i = ap (originIn (b .setting .rows)) e in
         on (inPair (rowFor b i) account)
         (λ q. ap (counted b account d period) (sym own) ∙ shown-is-counted i (mark-answered i held q))
         (λ q.
@@ -123,7 +124,7 @@ module _ (b : Book contracts) (account D period : ℕ) where
   total-is-shown e =
       let none = answer-none (totalRules b account D period) refl e in
       let s = not-false (sound b) (none 0) in
-      let a = not-false (hasAccount b account) (none 1) in
-      let p = not-false (isPeriod (b .time) D period) (none 2) in
+      let a = not-false (hasAccount (b .setting) account) (none 1) in
+      let p = not-false (isPeriod (b .setting .time) D period) (none 2) in
       total-is-sum b account D period e
-      ∙ sum-ext (length (b .ledger .held)) (counted b account (dayOf (b .time) D) period) (λ slot. shownIn (getD (b .ledger .held) slot 0)) (λ k l. slot-shows s a p k l)
+      ∙ sum-ext (length (b .ledger .held)) (counted b account (dayOf (b .setting .time) D) period) (λ slot. shownIn (getD (b .ledger .held) slot 0)) (λ k l. slot-shows s a p k l)

@@ -8,16 +8,16 @@ use native.Mathlib.Omega.{arith}
 use lib.Dec.{eqb}
 use lib.IntN.{ℤ, pos}
 use lib.ListN.{length, getD}
-use borrow.Author.Tests.{lt-ltb}
 use Rattle.words.specs.Lists.{any, find, sumOver}
 use Rattle.words.specs.Rules.{answer}
 use Rattle.laws.proofs.Cases.{on}
 use Rattle.laws.proofs.Sums.{sum-ext, sum-cut, sum-over}
 use Rattle.laws.proofs.Once.{sum-among}
-use Rattle.meaning.specs.Time.{dayOf, isPeriod}
+use Rattle.meaning.specs.Time.{dayOf, isPeriod, periodsOn}
 use Rattle.meaning.specs.Authorisations.{Authorisation, rowAt}
+use Rattle.meaning.specs.Settings.{hasAccount}
 use Rattle.meaning.specs.Ledgers.{contracts, originatorOf, originIn, one, two}
-use Rattle.meaning.specs.Books.{Setup, openingRules, Book, openedBook, hasAccount}
+use Rattle.meaning.specs.Books.{Setup, openingRules, Book, openedBook}
 use Rattle.meaning.specs.Calls.{Call}
 use Rattle.meaning.specs.History.{Event, decides, after, eventsOf}
 use Rattle.meaning.specs.Totals.{matches, seenBy, counted, sumOf, totalRules, total}
@@ -25,7 +25,7 @@ use Rattle.meaning.specs.FromHistory.{wasAccepted, acceptedIdentifiers, 
 use Rattle.meaning.proofs.Contracts.{contracts-lawful}
 use Rattle.meaning.proofs.Held.{is-unheld}
 use Rattle.meaning.proofs.Moves.{stands-unheld}
-use Rattle.meaning.proofs.History.{same-period, after-running, after-sound, history}
+use Rattle.meaning.proofs.History.{after-sound, history}
 use Rattle.meaning.proofs.Corollaries.{stored-held, stored-unheld, held-when-accepted}
 use Rattle.meaning.proofs.Counted.{volume1, volume2, counted-unmatched}
 use Rattle.meaning.proofs.Totals.{total-answer, total-is-sum}
@@ -42,7 +42,7 @@ same-count : (v v′ w w′ : ℤ) (a a′ : Authorisation) (account : ℕ) → 
 same-count v v′ w w′ a a′ account p q r = rw (p, q, r)
 
 module _ (setup : Setup) (slots lent1 lent2 : ℕ) (opening : answer (openingRules setup slots lent1 lent2) ≡ 0) (calls : List (Call contracts))
-    (account D period : ℕ) (p : isPeriod (openedBook contracts setup slots .time) D period ≡ true) where
+    (account D period : ℕ) (p : isPeriod (after (openedBook contracts setup slots) calls .setting .time) D period ≡ true) where
   abbrev book : Book contracts
   book = after (openedBook contracts setup slots) calls
 
@@ -50,10 +50,13 @@ module _ (setup : Setup) (slots lent1 lent2 : ℕ) (opening : answer (openingRul
   events = eventsOf (openedBook contracts setup slots) calls
 
   abbrev d : ℕ
-  d = dayOf (book .time) D
+  d = dayOf (book .setting .time) D
+
+  abbrev periods : ℕ
+  periods = periodsOn (book .setting .time) D
 
   abbrev counts : ℕ → ℤ
-  counts = countedFromHistory (setup .rows) events account D period
+  counts = countedFromHistory (book .setting) events account D period
 
   -- ---- what a slot counts
 
@@ -64,14 +67,13 @@ module _ (setup : Setup) (slots lent1 lent2 : ℕ) (opening : answer (openingRul
       account
 
   held-counts : (k i : ℕ) → k < length (book .ledger .held) → getD (book .ledger .held) k 0 ≡ suc i → counted book account d period k ≡ counts i
-  unfolding counted countedFromHistory openedBook
+  unfolding counted countedFromHistory
   held-counts k i l e =
-      same-count (volume1 book d period k) (decides (setup .rows) events i one D period) (volume2 book d period k) (decides (setup .rows) events i two D period)
-      (originIn (book .rows) (getD (book .ledger .held) k 0)) (rowAt (setup .rows) (originatorOf i)) account
+      same-count (volume1 book d period k) (decides events i one D periods period) (volume2 book d period k) (decides events i two D periods period)
+      (originIn (book .setting .rows) (getD (book .ledger .held) k 0)) (rowAt (book .setting .rows) (originatorOf i)) account
       (stored-held contracts-lawful setup slots lent1 lent2 opening calls k one D period l p i e)
       (stored-held contracts-lawful setup slots lent1 lent2 opening calls k two D period l p i e)
-      (ap (originIn (book .rows)) e
-      ∙ ap (λ (rows : List Authorisation). rowAt rows (originatorOf i)) (after-running contracts-lawful setup slots lent1 lent2 opening calls .1 .rows))
+      (ap (originIn (book .setting .rows)) e)
 
   -- so the slots together count what the accepted identifiers do
   sum-over-accepted : sumOf book account d period ≡ sumOver (acceptedIdentifiers events) counts
@@ -91,31 +93,26 @@ module _ (setup : Setup) (slots lent1 lent2 : ℕ) (opening : answer (openingRul
   unfolding countedFromHistory
   never-accepted-counts i e =
       let away : length (book .ledger .held) ≤ find (suc i) (book .ledger .held) = is-unheld (book .ledger .held) i (held-when-accepted setup slots calls i ∙ e) in
-      let none : decides (setup .rows) events i one D period ≡ contracts .nothing =
+      let none : decides events i one D periods period ≡ contracts .nothing =
       sym (history contracts-lawful setup slots lent1 lent2 opening calls i one D period p) ∙ stands-unheld book i one D period away in
-      rw (nothing-matches (decides (setup .rows) events i one D period) (decides (setup .rows) events i two D period) none)
+      rw (nothing-matches (decides events i one D periods period) (decides events i two D periods period) none)
 
   -- it is enough to add up those that were accepted
-  pub accepted-are-enough : totalFromHistory (setup .rows) events account D period ≡ sumOver (acceptedIdentifiers events) counts
+  pub accepted-are-enough : totalFromHistory (book .setting) events account D period ≡ sumOver (acceptedIdentifiers events) counts
   unfolding totalFromHistory
   accepted-are-enough =
       let ids = acceptedIdentifiers events in
-      sum-ext (length (setup .rows) * 65536) counts (λ (i : ℕ). cond (any (eqb i) ids) (counts i) (pos 0))
+      sum-ext (length (book .setting .rows) * 65536) counts (λ (i : ℕ). cond (any (eqb i) ids) (counts i) (pos 0))
       (λ i l. on (any (eqb i) ids) (λ e. rw e) (λ e. rw e (never-accepted-counts i (sym (listed-exactly i events) ∙ e))))
-      ∙ sum-among (length (setup .rows) * 65536) counts ids (listed-once events)
+      ∙ sum-among (length (book .setting .rows) * 65536) counts ids (listed-once events)
       (accepted-below contracts-lawful setup slots lent1 lent2 opening calls)
 
   -- ---- the account's total
 
-  module _ (known : account < setup .accounts) where
+  module _ (inBook : hasAccount (book .setting) account ≡ true) where
     -- the question is answered
     pub total-answered : answer (totalRules book account D period) ≡ 0
-    unfolding openedBook
-    total-answered =
-        let r = after-running contracts-lawful setup slots lent1 lent2 opening calls in
-        let a : hasAccount book account ≡ true = rw (r .1 .accounts) (lt-ltb account (setup .accounts) known) in
-        total-answer book account D period
-        ∙ rw (after-sound contracts-lawful setup slots lent1 lent2 opening calls, a, same-period (r .1) D period p)
+    total-answered = total-answer book account D period ∙ rw (after-sound contracts-lawful setup slots lent1 lent2 opening calls, inBook, p)
 
-    pub total-from-history : total book account D period ≡ totalFromHistory (setup .rows) events account D period
+    pub total-from-history : total book account D period ≡ totalFromHistory (book .setting) events account D period
     total-from-history = total-is-sum book account D period total-answered ∙ sum-over-accepted ∙ sym accepted-are-enough

@@ -1,6 +1,6 @@
 -- Document 01, "Matching, totals, marks": a figure on a bar, seen from the asking account.
 use mathlib.Core.Bool.{not, _&&_}
-use mathlib.Core.List.{List}
+use mathlib.Core.List.{List, _++_}
 use Prim.Native.Nat.{ℕ}
 use lib.IntN.{ℤ}
 use lib.Ieee.{Float}
@@ -9,8 +9,9 @@ use Rattle.words.specs.Rules.{Rule, _when_else_, done, answer}
 use Rattle.meaning.specs.Time.{days, dayOf, isPeriod}
 use Rattle.meaning.specs.Authorisations.{rowAt, inPair}
 use Rattle.meaning.specs.Ledgers.{contracts, stands, at, originatorOf, isHeld, slotOf}
-use Rattle.meaning.specs.Books.{Book, hasAccount}
-use Rattle.meaning.specs.Soundness.{sound}
+use Rattle.meaning.specs.Settings.{hasAccount}
+use Rattle.meaning.specs.Books.{Book}
+use Rattle.meaning.specs.Refusals.{asked}
 use Rattle.meaning.specs.Totals.{matches, seenBy, mwh}
 
 -- "Blank, OneSide, Agreed or Disagreed with its MWh (two figures for Disagreed, side 1 first)"
@@ -36,22 +37,28 @@ barOf v w =
     else if stands contracts w then OneSide w
     else Blank
 
+-- who may ask about an identifier, whatever the day
+abbrev pub askerRules : Book contracts → ℕ → ℕ → List Rule
+askerRules b i account =
+    25 when not (isHeld (b .ledger .held) i) else
+    15 when not (hasAccount (b .setting) account && inPair (rowAt (b .setting .rows) (originatorOf i)) account) else
+    done
+
+-- "mark 1, 25, 15, 16"
 unfoldable pub markRules : Book contracts → ℕ → ℕ → ℕ → ℕ → List Rule
 markRules b i account D period =
-    1 when not (sound b) else
-    25 when not (isHeld (b .ledger .held) i) else
-    15 when not (hasAccount b account && inPair (rowAt (b .rows) (originatorOf i)) account) else
-    16 when not (isPeriod (b .time) D period) else
-    done
+    asked b (askerRules b i account ++ (
+    16 when not (isPeriod (b .setting .time) D period) else
+    done))
 
 -- in whole kWh, as the asking account sees it; and in MWh
 unfoldable pub seenBar : Book contracts → ℕ → ℕ → ℕ → ℕ → Bar ℤ
 seenBar b i account D period =
     let slot : ℕ = slotOf (b .ledger .held) i in
-    let d : ℕ = dayOf (b .time) D in
+    let d : ℕ = dayOf (b .setting .time) D in
     if answer (markRules b i account D period) =? 0
-    then mapBar (seenBy (rowAt (b .rows) (originatorOf i)) account)
-    (barOf (at contracts (days (b .time)) (b .ledger .side1) slot d period) (at contracts (days (b .time)) (b .ledger .side2) slot d period))
+    then mapBar (seenBy (rowAt (b .setting .rows) (originatorOf i)) account)
+    (barOf (at contracts (days (b .setting .time)) (b .ledger .side1) slot d period) (at contracts (days (b .setting .time)) (b .ledger .side2) slot d period))
     else Blank
 
 unfoldable pub mark : Book contracts → ℕ → ℕ → ℕ → ℕ → Bar Float

@@ -6,8 +6,9 @@ use lib.ListN.{length}
 use Rattle.words.specs.Tests.{_<?_, _=?_, between}
 use Rattle.words.specs.Lists.{any}
 use Rattle.words.specs.Rules.{Rule, _when_else_, done}
-use Rattle.meaning.specs.Time.{Time, evergreen}
+use Rattle.meaning.specs.Time.{evergreen}
 use Rattle.meaning.specs.Authorisations.{Authorisation, rowWrong}
+use Rattle.meaning.specs.Settings.{Setting}
 use Rattle.meaning.specs.Ledgers.{Sort, places, Ledger, emptyLedger}
 
 pub record Setup : Type 0 where
@@ -46,25 +47,20 @@ openingRules s slots lent1 lent2 =
 
 -- ---- the book
 
+-- a setting as it is set up, with no gate closed
+abbrev pub openedSetting : Setup → Setting
+openedSetting s =
+    record { time = record { first = s .first; codes = s .codes; closed = 0 }; accounts = s .accounts; rows = s .rows }
+
+-- what a setting was set up with
+abbrev pub setupOf : Setting → Setup
+setupOf s = record { first = s .time .first; codes = s .time .codes; accounts = s .accounts; rows = s .rows }
+
 module _ (K : Sort) where
   pub record Book : Type 0 where
-    pub time : Time
-    pub accounts : ℕ
-    pub rows : List Authorisation
+    pub setting : Setting
     pub ledger : Ledger K
 
   -- "Opening closes no gate, holds no identifier and sets every place to the mark."
   unfoldable pub openedBook : Setup → ℕ → Book
-  openedBook s slots =
-      let start : Time = record { first = s .first; codes = s .codes; closed = 0 } in
-      record { time = start; accounts = s .accounts; rows = s .rows; ledger = emptyLedger K slots (length (s .codes)) }
-
-module _ {K : Sort} where
-  abbrev pub setupOf : Book K → Setup
-  setupOf b = record { first = b .time .first; codes = b .time .codes; accounts = b .accounts; rows = b .rows }
-
-  abbrev pub hasAccount : Book K → ℕ → Bool
-  hasAccount b account = account <? b .accounts
-
-  abbrev pub hasAuthorisation : Book K → ℕ → Bool
-  hasAuthorisation b k = k <? length (b .rows)
+  openedBook s slots = record { setting = openedSetting s; ledger = emptyLedger K slots (length (s .codes)) }

@@ -1,10 +1,12 @@
 -- Document 01 as definitions, in its order and its words.
 pub mod Time
 pub mod Authorisations
+pub mod Settings
 pub mod Ledgers
 pub mod Messages
 pub mod Books
 pub mod Soundness
+pub mod Refusals
 pub mod Notifications
 pub mod Calls
 pub mod History

@@ -1,43 +1,44 @@
 -- Document 01, "What a notification does" and "Answer numbers" (1 to 14): what can be wrong with a notification, its kind, and its answer.
 use mathlib.Core.Bool.{Bool, true, not, _&&_, _||_}
-use mathlib.Core.List.{List, [], _∷_}
+use mathlib.Core.List.{List, [], _∷_, _++_}
 use Prim.Native.Nat.{ℕ, suc}
 use lib.ListN.{length, getD}
 use Rattle.words.specs.Tests.{if_then_else_, _<?_, _≤?_, _=?_, between}
 use Rattle.words.specs.Below.{someBelow}
 use Rattle.words.specs.Lists.{any}
 use Rattle.words.specs.Rules.{Rule, _when_else_, done, answer}
-use Rattle.meaning.specs.Time.{periodsAt, days, dayNumber, dayOf, isOpenAt, nextDay, everyGateClosed, currentDay}
-use Rattle.meaning.specs.Authorisations.{Authorisation, rowAt, inForce, expired, sameAccounts}
-use Rattle.meaning.specs.Ledgers.{Sort, stands, at, originatorOf, isHeld, slotOf, slotFor, everySlotHeld, holds, one, two}
+use Rattle.meaning.specs.Time.{periodsAt, days, dayNumber, periodsOn, isOpenAt, nextDay, currentDay}
+use Rattle.meaning.specs.Authorisations.{Authorisation, rowAt, sameAccounts}
+use Rattle.meaning.specs.Ledgers.{Sort, Ledger, stands, at, originatorOf, isHeld, slotOf, slotFor, everySlotHeld, holds, one, two}
 use Rattle.meaning.specs.Messages.{Entry, Notification, writes}
-use Rattle.meaning.specs.Books.{Book, hasAuthorisation}
-use Rattle.meaning.specs.Soundness.{sound}
+use Rattle.meaning.specs.Settings.{Setting, known, inForce, expired}
+use Rattle.meaning.specs.Books.{Book}
+use Rattle.meaning.specs.Refusals.{arriving}
 
 pub data Kind : Type 0 where
   initial replacement additional : Kind
 
 module _ {K : Sort} where
   -- the authorisation that it is sent under, which has the type
-  abbrev pub under : Book K → Notification K → Authorisation
-  under b n = rowAt (b .rows) (n .authorisation)
+  abbrev pub under : Setting → Notification K → Authorisation
+  under s n = rowAt (s .rows) (n .authorisation)
 
   -- ---- what can be wrong with it
 
   -- 4: "key wrong, or agent is neither of its two"
-  unfoldable pub keyOrAgentWrong : Book K → Notification K → Bool
-  keyOrAgentWrong b n = not (n .key =? under b n .key) || not (writes (b .rows) n one || writes (b .rows) n two)
+  unfoldable pub keyOrAgentWrong : Setting → Notification K → Bool
+  keyOrAgentWrong s n = not (n .key =? under s n .key) || not (writes (s .rows) n one || writes (s .rows) n two)
 
   -- 6: the originator is this authorisation, or "one whose last day is before the current day with the same account 1 and account 2"
-  unfoldable pub originatorRight : Book K → Notification K → Bool
-  originatorRight b n =
+  unfoldable pub originatorRight : Setting → Notification K → Bool
+  originatorRight s n =
       let o : ℕ = originatorOf (n .identifier) in
       o =? n .authorisation
-      || (hasAuthorisation b o && expired (rowAt (b .rows) o) (currentDay (b .time)) && sameAccounts (rowAt (b .rows) o) (under b n))
+      || (known s o && expired s o (currentDay (s .time)) && sameAccounts (rowAt (s .rows) o) (under s n))
 
   -- "First and last day equal: periods 1 to that day's length. Otherwise, evergreen included: periods 1 to 48."
-  unfoldable pub highestPeriod : Book K → Notification K → ℕ
-  highestPeriod b n = if n .first =? n .last then periodsAt (b .time .codes) (dayOf (b .time) (n .first)) else 48
+  unfoldable pub highestPeriod : Setting → Notification K → ℕ
+  highestPeriod s n = if n .first =? n .last then periodsOn (s .time) (n .first) else 48
 
   -- each period is above the one before it, and none is above the highest
   unfoldable pub rising : ℕ → ℕ → List (Entry K) → Bool
@@ -45,8 +46,8 @@ module _ {K : Sort} where
   rising before highest (e ∷ es) = between (suc before) highest (e .period) && rising (e .period) highest es
 
   -- 10: "a period is 0 or too high, or periods do not strictly rise; an entry past the 50th counts as too high"
-  unfoldable pub periodWrong : Book K → Notification K → Bool
-  periodWrong b n = 50 <? length (n .entries) || not (rising 0 (highestPeriod b n) (n .entries))
+  unfoldable pub periodWrong : Setting → Notification K → Bool
+  periodWrong s n = 50 <? length (n .entries) || not (rising 0 (highestPeriod s n) (n .entries))
 
   -- 11: "a volume out of range"
   unfoldable pub volumeWrong : Notification K → Bool
@@ -57,33 +58,32 @@ module _ {K : Sort} where
   -- a place of a slot, on a side that it writes, "states something when it does not hold the mark"
   unfoldable pub statesAt : Book K → Notification K → ℕ → ℕ → ℕ → Bool
   statesAt b n slot d period =
-      (writes (b .rows) n one && stands K (at K (days (b .time)) (b .ledger .side1) slot d period))
-      || (writes (b .rows) n two && stands K (at K (days (b .time)) (b .ledger .side2) slot d period))
+      (writes (b .setting .rows) n one && stands K (at K (days (b .setting .time)) (b .ledger .side1) slot d period))
+      || (writes (b .setting .rows) n two && stands K (at K (days (b .setting .time)) (b .ledger .side2) slot d period))
 
   -- in some period of a day; in some open period of a day
   unfoldable pub statesOn : Book K → Notification K → ℕ → ℕ → Bool
-  statesOn b n slot d = someBelow (periodsAt (b .time .codes) d) (λ (p : ℕ). statesAt b n slot d (suc p))
+  statesOn b n slot d = someBelow (periodsAt (b .setting .time .codes) d) (λ (p : ℕ). statesAt b n slot d (suc p))
 
   unfoldable pub statesOpenOn : Book K → Notification K → ℕ → ℕ → Bool
   statesOpenOn b n slot d =
-      someBelow (periodsAt (b .time .codes) d) (λ (p : ℕ). isOpenAt (b .time .codes) (b .time .closed) d (suc p) && statesAt b n slot d (suc p))
+      someBelow (periodsAt (b .setting .time .codes) d) (λ (p : ℕ). isOpenAt (b .setting .time .codes) (b .setting .time .closed) d (suc p) && statesAt b n slot d (suc p))
 
   -- "its identifier is held and, on a side it writes, states anything on the notification's first day or later"
   unfoldable pub isReplacement : Book K → Notification K → Bool
   isReplacement b n =
       isHeld (b .ledger .held) (n .identifier)
-      && someBelow (days (b .time)) (λ (d : ℕ). n .first ≤? dayNumber (b .time) d && statesOn b n (slotOf (b .ledger .held) (n .identifier)) d)
+      && someBelow (days (b .setting .time)) (λ (d : ℕ). n .first ≤? dayNumber (b .setting .time) d && statesOn b n (slotOf (b .ledger .held) (n .identifier)) d)
 
   -- a slot's entry holds "another held identifier of the same account 1 and account 2"
-  unfoldable pub isOther : Book K → Notification K → ℕ → Bool
-  isOther b n entry =
-      holds (λ (i : ℕ). not (i =? n .identifier) && sameAccounts (rowAt (b .rows) (originatorOf i)) (under b n)) entry
+  unfoldable pub isOther : Setting → Notification K → ℕ → Bool
+  isOther s n entry = holds (λ (i : ℕ). not (i =? n .identifier) && sameAccounts (rowAt (s .rows) (originatorOf i)) (under s n)) entry
 
   -- it "states, on a side it writes, an open period on one of its days"
   unfoldable pub overlaps : Book K → Notification K → ℕ → Bool
   overlaps b n slot =
-      isOther b n (getD (b .ledger .held) slot 0)
-      && someBelow (days (b .time)) (λ (d : ℕ). between (n .first) (n .last) (dayNumber (b .time) d) && statesOpenOn b n slot d)
+      isOther (b .setting) n (getD (b .ledger .held) slot 0)
+      && someBelow (days (b .setting .time)) (λ (d : ℕ). between (n .first) (n .last) (dayNumber (b .setting .time) d) && statesOpenOn b n slot d)
 
   unfoldable pub isAdditional : Book K → Notification K → Bool
   isAdditional b n = not (isReplacement b n) && someBelow (length (b .ledger .held)) (overlaps b n)
@@ -93,23 +93,48 @@ module _ {K : Sort} where
 
   -- ---- its answer
 
+  -- 3 to 6: its authorisation
+  abbrev pub authorisationRules : Setting → Notification K → List Rule
+  authorisationRules s n =
+      3 when not (known s (n .authorisation)) else
+      4 when keyOrAgentWrong s n else
+      5 when not (inForce s (n .authorisation) (currentDay (s .time))) else
+      6 when not (originatorRight s n) else
+      done
+
+  -- 7 to 9: its days
+  abbrev pub dayRules : Setting → Notification K → List Rule
+  dayRules s n =
+      7 when n .last <? n .first else
+      8 when n .last <? currentDay (s .time) else
+      9 when nextDay (s .time) ≤? n .first else
+      done
+
+  -- 10 and 11: its entries
+  abbrev pub entryRules : Setting → Notification K → List Rule
+  entryRules s n =
+      10 when periodWrong s n else
+      11 when volumeWrong n else
+      done
+
+  -- 12 and 13: its kind, against the type of its authorisation
+  abbrev pub kindRules : Book K → Notification K → List Rule
+  kindRules b n =
+      12 when isReplacement b n && under (b .setting) n .type =? 2 else
+      13 when isAdditional b n && under (b .setting) n .type =? 1 else
+      done
+
+  -- 14: a slot for its identifier
+  abbrev pub slotRules : Ledger K → Notification K → List Rule
+  slotRules l n =
+      14 when not (isHeld (l .held) (n .identifier)) && everySlotHeld (l .held) else
+      done
+
+  -- "notification 1 to 14 as numbered"
   unfoldable pub notificationRules : Book K → Notification K → List Rule
   notificationRules b n =
-      1 when not (sound b) else
-      2 when everyGateClosed (b .time) else
-      3 when not (hasAuthorisation b (n .authorisation)) else
-      4 when keyOrAgentWrong b n else
-      5 when not (inForce (under b n) (currentDay (b .time))) else
-      6 when not (originatorRight b n) else
-      7 when n .last <? n .first else
-      8 when n .last <? currentDay (b .time) else
-      9 when nextDay (b .time) ≤? n .first else
-      10 when periodWrong b n else
-      11 when volumeWrong n else
-      12 when isReplacement b n && under b n .type =? 2 else
-      13 when isAdditional b n && under b n .type =? 1 else
-      14 when not (isHeld (b .ledger .held) (n .identifier)) && everySlotHeld (b .ledger .held) else
-      done
+      arriving b (
+      authorisationRules (b .setting) n ++ dayRules (b .setting) n ++ entryRules (b .setting) n ++ kindRules b n ++ slotRules (b .ledger) n)
 
 -- "The answer gives kind and slot": 1 initial, 2 replacement, 3 additional; both zero with a refusal.
 pub record Notified : Type 0 where

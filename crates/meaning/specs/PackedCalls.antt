@@ -1,5 +1,4 @@
 -- A packed message done to a book, and a run of packed messages done one after the other ("Bytes after a message belong to the next").
-use mathlib.Core.Bool.{not}
 use mathlib.Core.List.{List, [], _∷_, _++_}
 use Prim.Native.Nat.{ℕ, zero, suc, _+_}
 use lib.ListN.{length, drop}
@@ -9,6 +8,7 @@ use Rattle.meaning.specs.Ledgers.{contracts}
 use Rattle.meaning.specs.Messages as Messages
 use Rattle.meaning.specs.Books.{Book}
 use Rattle.meaning.specs.Soundness.{sound}
+use Rattle.meaning.specs.Refusals.{asked}
 use Rattle.meaning.specs.Notifications.{notified}
 use Rattle.meaning.specs.Calls as Calls
 use Rattle.meaning.specs.Calls.{Call, message, rulesFor}
@@ -29,10 +29,10 @@ messageRules b gate = rulesFor b Calls.gate
 messageRules b (notification n) = rulesFor b (message (Messages.notification n))
 messageRules b (nullification x) = rulesFor b (message (Messages.nullification x))
 messageRules b (otherKind k) =
-    1 when not (sound b) else
+    asked b (
     20 when k =? 0 else
     23 when 0 <? k else
-    done
+    done)
 
 -- "The answer gives kind and slot": those of a notification; zero for every other message, and with a refusal
 unfoldable pub kindGiven : Book contracts → Packed → ℕ
@@ -51,7 +51,7 @@ slotGiven b (otherKind k) = 0
 
 -- 1 comes first, as in every order on a book; then reading's refusals, and then those that the book has for what was read.
 unfoldable pub applyRules : Book contracts → List ℕ → List Rule
-applyRules b bytes = 1 when not (sound b) else (readingRules bytes ++ messageRules b (readMessage bytes .read))
+applyRules b bytes = asked b (readingRules bytes ++ messageRules b (readMessage bytes .read))
 
 pub record Applied : Type 0 where
   pub answer : ℕ

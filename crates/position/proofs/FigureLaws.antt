@@ -89,12 +89,12 @@ pub day-sum-small : (b : Book) (held : List ℕ) (side1 side2 : List ℤ) (accou
 unfolding daySum
 day-sum-small b held side1 side2 account d a below =
     let whole = bookOf b held side1 side2 in
-    let periods = periodsAt (whole .time .codes) d in
+    let periods = periodsAt (whole .setting .time .codes) d in
     let part : ℕ → ℕ → ℤ = λ slot p. partOf below (counted whole account d (suc p) slot) in
     let small : (slot p : ℕ) → natAbs (part slot p) ≤ 99999999 = λ slot p.
     omega (arith, part-small below (counted whole account d (suc p) slot), counted-small whole d (suc p) slot (parts whole (a .is-sound)) account) in
     let of-slot : (slot : ℕ) → natAbs (sumBelowℤ periods (part slot)) ≤ 4999999950 = λ slot.
-    omega (arith, periods-le (whole .time .codes) d, sum-bound periods 99999999 (part slot) (λ p h. small slot p)) in
+    omega (arith, periods-le (whole .setting .time .codes) d, sum-bound periods 99999999 (part slot) (λ p h. small slot p)) in
     omega (arith, slots-few b held side1 side2 d a, sum-bound (length held) 4999999950 (λ slot. sumBelowℤ periods (part slot)) (λ slot h. of-slot slot))
 
 -- ---- differences
@@ -118,6 +118,6 @@ module _ (b : Meaning.Book contracts) (account D : ℕ) where
       rw (e, r)
 
   pub figures-given : Asked b account D
-      → record { answer = 0; day = figuresFor (daySum (partOf false) b account (dayOf (b .time) D)) (daySum (partOf true) b account (dayOf (b .time) D)) } ≡ figured b account D
+      → record { answer = 0; day = figuresFor (daySum (partOf false) b account (dayOf (b .setting .time) D)) (daySum (partOf true) b account (dayOf (b .setting .time) D)) } ≡ figured b account D
   unfolding answer figuresRules figured figures figuresFor sold bought partOf
   figures-given a = rw (a .is-sound, a .has-account, a .has-day)

@@ -56,13 +56,13 @@ module _ (b : Book) (held : List ℕ) (side1 side2 : List ℤ) where
   -- demand 2, "exactly", as for each question that document 01 names (meaning, Exactly.antt): answer k comes if and only if its condition holds and
   -- no earlier one of 1, 15, 16, 24 does
   pub day-totals-exactly : (account D room : ℕ) → Exactly (dayTotalRules before account D room)
-  unfolding dayTotalRules
+  unfolding figuresRules dayTotalRules
   day-totals-exactly account D room = exactly (dayTotalRules before account D room) refl
 
   -- the four numbers themselves, in their order
   pub day-totals-order : (account D room : ℕ) → let rules = dayTotalRules before account D room in
       (numberAt rules 0 ≡ 1) × (numberAt rules 1 ≡ 15) × (numberAt rules 2 ≡ 16) × (numberAt rules 3 ≡ 24)
-  unfolding dayTotalRules
+  unfolding figuresRules dayTotalRules
   day-totals-order account D room = (refl, refl, refl, refl)
 
   module _ (account D : ℕ) (lent : List ℤ) (done : answer (dayTotalRules before account D (length lent)) ≡ 0) where
@@ -86,7 +86,7 @@ module _ (b : Book) (held : List ℕ) (side1 side2 : List ℤ) where
 
   module _ (account D : ℕ) (r : Figured) (promise : r ≡ figured before account D) where
     abbrev d : ℕ
-    d = dayOf (before .time) D
+    d = dayOf (before .setting .time) D
 
     given : r .answer ≡ 0 → eqb (answer (figuresRules before account D)) 0 ≡ true
     unfolding figured

@@ -20,7 +20,7 @@ use Rattle.position.specs.declared.DayFigures.{DayFigures}
 -- what the parts of a question know: the book is sound, and the day at place d is one of its days
 pub record DayAsked (b : Book contracts) (d : ℕ) : Type 0 where
   pub is-sound : sound b ≡ true
-  pub inside : d < days (b .time)
+  pub inside : d < days (b .setting .time)
 
 -- a run of places is in both tables
 pub record PartInside (first count : ℕ) (side1 side2 : List ℤ) : Type 0 where

@@ -1,16 +1,14 @@
 -- What the questions of totals and figures give: meaning's answers as structs, and a whole day of totals at once.
-use mathlib.Core.Bool.{not}
-use mathlib.Core.List.{List}
+use mathlib.Core.List.{List, _++_}
 use Prim.Native.Nat.{ℕ, suc}
 use lib.IntN.{ℤ}
 use lib.ListN.{length}
 use Rattle.words.specs.Tests.{if_then_else_, _<?_, _=?_}
 use Rattle.words.specs.Lists.{onFront}
 use Rattle.words.specs.Rules.{Rule, _when_else_, done, answer}
-use Rattle.meaning.specs.Time.{periodsAt, dayOf, hasDay}
+use Rattle.meaning.specs.Time.{periodsOn}
 use Rattle.meaning.specs.Ledgers.{contracts}
-use Rattle.meaning.specs.Books.{Book, hasAccount}
-use Rattle.meaning.specs.Soundness.{sound}
+use Rattle.meaning.specs.Books.{Book}
 use Rattle.meaning.specs.Totals as Meaning
 use Rattle.position.specs.declared.Totalled.{Totalled}
 use Rattle.position.specs.declared.DayFigures.{DayFigures}
@@ -23,16 +21,11 @@ totalled b account D period =
 -- ---- a whole day of totals
 
 abbrev pub dayPeriods : Book contracts → ℕ → ℕ
-dayPeriods b D = periodsAt (b .time .codes) (dayOf (b .time) D)
+dayPeriods b D = periodsOn (b .setting .time) D
 
 -- as the day's figures, and then the room that is lent
 unfoldable pub dayTotalRules : Book contracts → ℕ → ℕ → ℕ → List Rule
-dayTotalRules b account D room =
-    1 when not (sound b) else
-    15 when not (hasAccount b account) else
-    16 when not (hasDay (b .time) D) else
-    24 when room <? dayPeriods b D else
-    done
+dayTotalRules b account D room = Meaning.figuresRules b account D ++ (24 when room <? dayPeriods b D else done)
 
 -- What is lent, after the question: place p gets the total of period p + 1, which is 0 where that one is refused by 26, and a place past the day's
 -- length stays. A refusal changes nothing.

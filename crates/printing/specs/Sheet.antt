@@ -39,7 +39,7 @@ dayLines b account day = join (build 50 (λ (p : ℕ). periodLines account day (
 
 unfoldable pub totalLines : Book contracts → List (List ℕ)
 totalLines b =
-    join (build (b .accounts) (λ (account : ℕ). join (build (days (b .time)) (λ (d : ℕ). dayLines b account (dayNumber (b .time) d)))))
+    join (build (b .setting .accounts) (λ (account : ℕ). join (build (days (b .setting .time)) (λ (d : ℕ). dayLines b account (dayNumber (b .setting .time) d)))))
 
 -- ---- the sheet
 

@@ -45,11 +45,11 @@ unfolding dayLines periodLines build join
 unsound-lines b account D s =
     ap join (build-same 50 (λ (p : ℕ). periodLines account D (suc p) (total b account D (suc p))) (λ p. []) (λ p h. rw (unsound-zero b account D (suc p) s) refl))
 
-pub day-wraps : (b : Book contracts) (account d : ℕ) → d < days (b .time) → dayLines b account ((b .time .first + d) % 2 ^ 16) ≡ dayLines b account (dayNumber (b .time) d)
+pub day-wraps : (b : Book contracts) (account d : ℕ) → d < days (b .setting .time) → dayLines b account ((b .setting .time .first + d) % 2 ^ 16) ≡ dayLines b account (dayNumber (b .setting .time) d)
 day-wraps b account d h =
     on (sound b)
-    (λ s. ap (dayLines b account) (omega (arith, opens (setupOf b) _ _ _ (parts b s .setup) .last-day)))
-    (λ s. unsound-lines b account ((b .time .first + d) % 2 ^ 16) s ∙ sym (unsound-lines b account (dayNumber (b .time) d) s))
+    (λ s. ap (dayLines b account) (omega (arith, opens (setupOf (b .setting)) _ _ _ (parts b s .setup) .last-day)))
+    (λ s. unsound-lines b account ((b .setting .time .first + d) % 2 ^ 16) s ∙ sym (unsound-lines b account (dayNumber (b .setting .time) d) s))
 
 -- ---- things one after the other
 build-append : {A : Type 0} (m n : ℕ) (f : ℕ → A) → build (m + n) f ≡ build m f ++ build n (λ (k : ℕ). f (m + k))
@@ -84,9 +84,9 @@ row-by-row {A} (suc n) m f =
 pub every-account-day : (b : Book contracts) → join (build (accountDays b) (accountDayLines b)) ≡ totalLines b
 unfolding accountDays accountDayLines totalLines
 every-account-day b =
-    let m = days (b .time) in
-    ap join (build-same (b .accounts * m) (accountDayLines b) (λ (k : ℕ). dayLines b (k / m) (dayNumber (b .time) (k % m))) (λ k h. rw (lt-ltb k (b .accounts * m) h)))
-    ∙ row-by-row (b .accounts) m (λ account d. dayLines b account (dayNumber (b .time) d))
+    let m = days (b .setting .time) in
+    ap join (build-same (b .setting .accounts * m) (accountDayLines b) (λ (k : ℕ). dayLines b (k / m) (dayNumber (b .setting .time) (k % m))) (λ k h. rw (lt-ltb k (b .setting .accounts * m) h)))
+    ∙ row-by-row (b .setting .accounts) m (λ account d. dayLines b account (dayNumber (b .setting .time) d))
 
 -- ---- the lines of the k-th, for a book by value, whose days are as many as its struct says
 
@@ -94,7 +94,7 @@ module _ (b : Structs.Book) (held : List ℕ) (side1 side2 : List ℤ) (k : ℕ)
   abbrev whole : Book contracts
   whole = bookOf b held side1 side2
 
-  pub own-days : days (whole .time) ≡ b .setup .days
+  pub own-days : days (whole .setting .time) ≡ b .setup .days
   own-days = codes-own (b .setup .days) (b .setup .codes)
 
   pub no-account-day : b .setup .accounts * b .setup .days ≤ k → accountDayLines whole k ≡ []
@@ -105,6 +105,6 @@ module _ (b : Structs.Book) (held : List ℕ) (side1 side2 : List ℤ) (k : ℕ)
       → dayLines whole (k / b .setup .days) ((b .setup .first + k % b .setup .days) % 2 ^ 16) ≡ accountDayLines whole k
   unfolding accountDayLines accountDays
   account-day h =
-      let place : k % b .setup .days < days (whole .time) = rw own-days (mod-lt k (some-day (b .setup .accounts) (b .setup .days) k h)) in
+      let place : k % b .setup .days < days (whole .setting .time) = rw own-days (mod-lt k (some-day (b .setup .accounts) (b .setup .days) k h)) in
       day-wraps whole (k / b .setup .days) (k % b .setup .days) place
       ∙ sym (rw (own-days, lt-ltb k (b .setup .accounts * b .setup .days) h) refl)

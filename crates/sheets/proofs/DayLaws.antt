@@ -15,9 +15,10 @@ use Rattle.laws.proofs.Fronts.{front-length, front-at, front-past}
 use Rattle.laws.proofs.Builds.{build-same}
 use Rattle.meaning.specs.Time.{days, dayOf, hasDay, isPeriod, isPeriodAt}
 use Rattle.meaning.specs.Ledgers.{contracts}
-use Rattle.meaning.specs.Books.{Book, hasAccount}
+use Rattle.meaning.specs.Settings.{hasAccount}
+use Rattle.meaning.specs.Books.{Book}
 use Rattle.meaning.specs.Soundness.{sound}
-use Rattle.meaning.specs.Totals.{total, totalRules}
+use Rattle.meaning.specs.Totals.{total, totalRules, figuresRules}
 use Rattle.meaning.proofs.Clock.{periods-le}
 use Rattle.position.specs.Totals.{dayPeriods, dayTotalRules, dayTotals}
 use Rattle.printing.specs.Sheet.{periodLines, dayLines}
@@ -30,24 +31,24 @@ module _ (b : Book contracts) (account D : ℕ) where
   unfolding total totalRules answer
   unsound-zero period s = rw s
 
-  no-account-zero : (period : ℕ) → sound b ≡ true → hasAccount b account ≡ false → total b account D period ≡ pos 0
+  no-account-zero : (period : ℕ) → sound b ≡ true → hasAccount (b .setting) account ≡ false → total b account D period ≡ pos 0
   unfolding total totalRules answer
   no-account-zero period s a = rw (s, a)
 
-  no-period-zero : (period : ℕ) → sound b ≡ true → hasAccount b account ≡ true → isPeriod (b .time) D period ≡ false → total b account D period ≡ pos 0
+  no-period-zero : (period : ℕ) → sound b ≡ true → hasAccount (b .setting) account ≡ true → isPeriod (b .setting .time) D period ≡ false → total b account D period ≡ pos 0
   unfolding total totalRules answer
   no-period-zero period s a e = rw (s, a, e)
 
-  late-period : (p : ℕ) → dayPeriods b D ≤ p → isPeriod (b .time) D (suc p) ≡ false
+  late-period : (p : ℕ) → dayPeriods b D ≤ p → isPeriod (b .setting .time) D (suc p) ≡ false
   unfolding isPeriod isPeriodAt
   late-period p h =
-      rw (lt-leb (suc p) (dayPeriods b D) (omega arith), and-false (1 ≤? suc p), and-false (dayOf (b .time) D <? days (b .time)), and-false (b .time .first ≤? D))
+      rw (lt-leb (suc p) (dayPeriods b D) (omega arith), and-false (1 ≤? suc p), and-false (dayOf (b .setting .time) D <? days (b .setting .time)), and-false (b .setting .time .first ≤? D))
 
-  no-day : (period : ℕ) → hasDay (b .time) D ≡ false → isPeriod (b .time) D period ≡ false
+  no-day : (period : ℕ) → hasDay (b .setting .time) D ≡ false → isPeriod (b .setting .time) D period ≡ false
   unfolding isPeriod isPeriodAt
   no-day period e =
-      on (b .time .first ≤? D)
-      (λ f. on (dayOf (b .time) D <? days (b .time)) (λ g. absurd (true≢false (rw (f, g) at e))) (λ g. rw (f, g)))
+      on (b .setting .time .first ≤? D)
+      (λ f. on (dayOf (b .setting .time) D <? days (b .setting .time)) (λ g. absurd (true≢false (rw (f, g) at e))) (λ g. rw (f, g)))
       (λ f. rw f)
 
   -- ---- asked with zero in every place
@@ -84,15 +85,15 @@ module _ (b : Book contracts) (account D : ℕ) where
     past-zero e l = rw e (front-past (dayPeriods b D) totals zeros (pos 0) p l h ∙ asked-zero)
 
     day-kwh : getD (dayTotals b account D zeros) p (pos 0) ≡ total b account D (suc p)
-    unfolding dayTotalRules answer
+    unfolding figuresRules dayTotalRules answer
     day-kwh =
         on (sound b)
         (λ s.
-        on (hasAccount b account)
+        on (hasAccount (b .setting) account)
         (λ a.
-        on (hasDay (b .time) D)
+        on (hasDay (b .setting .time) D)
         (λ d.
-        let done : answer (dayTotalRules b account D 50) ≡ 0 = rw (s, a, d, le-ltb 50 (dayPeriods b D) (periods-le (b .time .codes) (dayOf (b .time) D))) in
+        let done : answer (dayTotalRules b account D 50) ≡ 0 = rw (s, a, d, le-ltb 50 (dayPeriods b D) (periods-le (b .setting .time .codes) (dayOf (b .setting .time) D))) in
         by-lt p (dayPeriods b D)
         (λ l. answered-total done l)
         (λ l. past-zero done l ∙ sym (no-period-zero (suc p) s a (late-period p l))))

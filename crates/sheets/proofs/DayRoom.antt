@@ -33,7 +33,7 @@ total-small : (b : Book contracts) (account D period : ℕ) → natAbs (total b 
 unfolding total totalRules
 total-small b account D period =
     on (answer (totalRules b account D period) =? 0)
-    (λ e. rw e (within-abs 99999999999 (sumOf b account (dayOf (b .time) D) period) (not-false _ (answer-none (totalRules b account D period) refl (eqb-true (answer (totalRules b account D period)) 0 e) 3))))
+    (λ e. rw e (within-abs 99999999999 (sumOf b account (dayOf (b .setting .time) D) period) (not-false _ (answer-none (totalRules b account D period) refl (eqb-true (answer (totalRules b account D period)) 0 e) 3))))
     (λ e. rw e (omega arith))
 
 small-mag : (z : ℤ) → natAbs z ≤ 99999999999 → mag z < 2 ^ 63
@@ -72,10 +72,10 @@ few-of-day b account D a d =
 pub few-of-account-day : (b : Book contracts) (k : ℕ) → sound b ≡ true → Few 50 (accountDayLines b k)
 unfolding accountDayLines accountDays
 few-of-account-day b k s =
-    let o = opens (setupOf b) _ _ _ (parts b s .setup) in
-    let m = days (b .time) in
-    on (k <? b .accounts * m)
+    let o = opens (setupOf (b .setting)) _ _ _ (parts b s .setup) in
+    let m = days (b .setting .time) in
+    on (k <? b .setting .accounts * m)
     (λ e.
-    let h : k < b .accounts * m = ltb-true k (b .accounts * m) e in
-    rw e (few-of-day b (k / m) (dayNumber (b .time) (k % m)) (omega (arith, account-below (b .accounts) m k h, o .few-accounts)) (omega (arith, mod-lt k (some-day (b .accounts) m k h), o .last-day))))
+    let h : k < b .setting .accounts * m = ltb-true k (b .setting .accounts * m) e in
+    rw e (few-of-day b (k / m) (dayNumber (b .setting .time) (k % m)) (omega (arith, account-below (b .setting .accounts) m k h, o .few-accounts)) (omega (arith, mod-lt k (some-day (b .setting .accounts) m k h), o .last-day))))
     (λ e. rw e (tt, omega arith))

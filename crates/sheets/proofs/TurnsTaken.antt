@@ -11,8 +11,8 @@ use Rattle.words.specs.Lists.{join}
 use Rattle.meaning.specs.Ledgers.{contracts}
 use Rattle.meaning.specs.Books as Meaning
 use Rattle.meaning.specs.Soundness.{sound}
-use Rattle.meaning.specs.PackedCalls.{Run, callsIn, runOn}
-use Rattle.meaning.proofs.History.{SameBook, after-same}
+use Rattle.meaning.specs.PackedCalls.{Run, runOn}
+use Rattle.meaning.proofs.OnlyClock.{OnlyClock, run-moves-clock}
 use Rattle.meaning.proofs.PackedCalls.{run-is-calls}
 use Rattle.book.specs.Structs.{bookOf}
 use Rattle.calls.proofs.RunLaws.{holds-book}
@@ -93,15 +93,15 @@ module _ {seen : ℕ} {s : State} {ended : Bool} {bytes : List ℕ} {r : Turned}
       omega (arith, many-messages answers number, told-counted ended (length bytes) run, few, turn .answers-lent, few-told (waits ended (length bytes) run) (length (run .answers))) in
       turn .prints ∙ front-lines 27 (s .out) (t .out) (r .written) (toldLines seen answers) (short-messages answers number (omega arith) told-bytes) (omega (arith, many, turn .out-lent)) (text, ap (λ (x : Turned). x .written) result)
 
-  same-book : SameBook (whole s) (run .book)
+  clock-moves : OnlyClock (whole s .setting) (run .book .setting)
   unfolding runOver
-  same-book = rw (run-is-calls (length bytes) (whole s) bytes) (after-same (whole s) (callsIn (length bytes) bytes))
+  clock-moves = rw (run-is-calls (length bytes) (whole s) bytes) (run-moves-clock (length bytes) (whole s) bytes)
 
   book-left : whole t ≡ run .book
   unfolding turnedOf
   book-left =
       rw (turn .book ∙ ap (λ (x : Turned). x .book) result, turn .promise .1 ∙ ap (λ (x : Run). x .book .ledger .held) same, turn .promise .2 ∙ ap (λ (x : Run). x .book .ledger .side1) same, turn .promise .3 ∙ ap (λ (x : Run). x .book .ledger .side2) same)
-      (holds-book (s .book) (s .held) (s .side1) (s .side2) (run .book) same-book)
+      (holds-book (s .book) (run .book) clock-moves)
 
   pub turn-is : IsTurn r t bytes printed (turnOf seen (whole s) ended bytes)
   unfolding turnOf turnedOf

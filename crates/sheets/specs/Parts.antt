@@ -45,11 +45,11 @@ kwhLines account day kwhs = join (build (length kwhs) (λ (p : ℕ). periodLines
 -- ---- the accounts' days one after the other: account 0 on each day, then account 1
 
 unfoldable pub accountDays : Meaning.Book contracts → ℕ
-accountDays b = b .accounts * days (b .time)
+accountDays b = b .setting .accounts * days (b .setting .time)
 
 unfoldable pub accountDayLines : Meaning.Book contracts → ℕ → List (List ℕ)
 accountDayLines b k =
-    if k <? accountDays b then dayLines b (k / days (b .time)) (dayNumber (b .time) (k % days (b .time))) else []
+    if k <? accountDays b then dayLines b (k / days (b .setting .time)) (dayNumber (b .setting .time) (k % days (b .setting .time))) else []
 
 -- ---- what is left of the bytes at hand, of which so many are used
 

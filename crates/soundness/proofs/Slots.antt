@@ -16,15 +16,15 @@ use Rattle.laws.proofs.Cases.{same-test, by-eq}
 use Rattle.laws.proofs.Lists.{everyAt-below, find-first, find-is}
 use Rattle.meaning.specs.Ledgers.{originatorOf}
 use Rattle.meaning.specs.Soundness.{slotRight, heldRight}
-use Rattle.soundness.specs.Parts.{other}
+use Rattle.soundness.specs.Parts.{below, other}
 use Rattle.soundness.proofs.Runs.{part-every}
 
-pub slot-unheld : (known : ℕ) (held : List ℕ) (k entry : ℕ) → entry ≡ 0 → slotRight known held k entry ≡ true
+pub slot-unheld : (known : ℕ → Bool) (held : List ℕ) (k entry : ℕ) → entry ≡ 0 → slotRight known held k entry ≡ true
 unfolding slotRight
 slot-unheld known held k entry e = rw e
 
 pub slot-held : (known : ℕ) (held : List ℕ) (k entry : ℕ) → entry ≢ 0
-    → slotRight known held k entry ≡ ltb ((entry - 1) / 65536) known && eqb (find entry held) k
+    → slotRight (below known) held k entry ≡ ltb ((entry - 1) / 65536) known && eqb (find entry held) k
 unfolding slotRight originatorOf
 slot-held known held k zero n = absurd (n refl)
 slot-held known held k (suc i) n =
@@ -57,6 +57,6 @@ part-before held k entry h =
     part-every (other entry) held 0 0 k k (zero-add k) (omega arith)
     ∙ every-ext k (λ (j : ℕ). other entry (getD held (0 + j) 0)) (λ (j : ℕ). other entry (getD held j 0)) (λ j l. rw (zero-add j))
 
-pub held-below : (known : ℕ) (held : List ℕ) → heldRight known held ≡ everyBelow (length held) (λ (k : ℕ). slotRight known held k (getD held k 0))
+pub held-below : (known : ℕ → Bool) (held : List ℕ) → heldRight known held ≡ everyBelow (length held) (λ (k : ℕ). slotRight known held k (getD held k 0))
 unfolding heldRight
 held-below known held = everyAt-below (slotRight known held) held 0

@@ -5,7 +5,7 @@ use mathlib.Core.Path.{_≡_}
 use Prim.Native.Nat.{ℕ, _+_, _-_, _*_, _≤_, _<_}
 use lib.IntN.{ℤ}
 use lib.ListN.{length, getD}
-use Rattle.words.specs.Tests.{if_then_else_, _≤?_, _=?_, within}
+use Rattle.words.specs.Tests.{if_then_else_, _<?_, _≤?_, _=?_, within}
 use Rattle.words.specs.Below.{everyBelow}
 use Rattle.meaning.specs.Time.{periodsAt}
 use Rattle.meaning.specs.Ledgers.{contracts, theMark, stands, places}
@@ -20,6 +20,10 @@ blank v = not (stands contracts v)
 -- nothing stands, or a volume in range
 unfoldable pub right : ℤ → Bool
 right v = blank v || within 99999999 v
+
+-- one of the numbers below n: of so many authorisations, the known ones
+abbrev pub below : ℕ → ℕ → Bool
+below n k = k <? n
 
 -- an entry that is not this one
 abbrev pub other : ℕ → ℕ → Bool

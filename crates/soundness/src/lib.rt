@@ -7,7 +7,7 @@ ghost use Rattle.words.specs.Tests.{_<?_};
 ghost use Rattle.words.specs.Below.{everyBelow};
 ghost use Rattle.meaning.specs.Ledgers.{theMark};
 ghost use Rattle.meaning.specs.Soundness.{slotRight, heldRight};
-ghost use Rattle.soundness.specs.Parts.{blank, right, other, DayLength, rowRight, daysRight, SlotInside, sideRight};
+ghost use Rattle.soundness.specs.Parts.{below, blank, right, other, DayLength, rowRight, daysRight, SlotInside, sideRight};
 
 const MOST_DAYS: usize = 8;
 
@@ -84,7 +84,7 @@ fn none_holds(part: &[u32], entry: u32) -> bool
 // The slot is unheld, or its identifier names a known originator and stands in no slot before.
 fn slot_right(held: &[u32], known: usize, k: usize) -> bool
     requires { ⌜ k < length (now held) ⌝ }
-    ensures { λ r. ⌜ r ≡ slotRight known (now (held .entry)) k (getD (now (held .entry)) k 0) ⌝ }
+    ensures { λ r. ⌜ r ≡ slotRight (below known) (now (held .entry)) k (getD (now (held .entry)) k 0) ⌝ }
 {
     let entry = held[k];
     if entry == 0 {
@@ -96,7 +96,7 @@ fn slot_right(held: &[u32], known: usize, k: usize) -> bool
 
 // Held identifiers differ and name known originators.
 pub fn held_right(held: &[u32], known: usize) -> bool
-    ensures { λ r. ⌜ r ≡ heldRight known (now (held .entry)) ⌝ }
+    ensures { λ r. ⌜ r ≡ heldRight (below known) (now (held .entry)) ⌝ }
 {
     let mut ok = true;
     for k in 0..held.len() {

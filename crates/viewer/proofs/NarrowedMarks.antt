@@ -11,7 +11,8 @@ use Rattle.laws.proofs.Cases.{on, and-false}
 use Rattle.meaning.specs.Time.{hasDay, isPeriod}
 use Rattle.meaning.specs.Authorisations.{rowAt, inPair}
 use Rattle.meaning.specs.Ledgers.{contracts, identifierOf, originatorOf, isHeld}
-use Rattle.meaning.specs.Books.{Book, hasAccount}
+use Rattle.meaning.specs.Settings.{hasAccount}
+use Rattle.meaning.specs.Books.{Book}
 use Rattle.meaning.specs.Soundness.{sound}
 use Rattle.meaning.specs.Bars.{markRules, seenBar, mark}
 use Rattle.meaning.specs.Rows.{rowRules}
@@ -32,7 +33,7 @@ module _ (b : Book contracts) where
   withoutAccount i = cond (sound b) (cond (isHeld (b .ledger .held) i) 15 25) 1
 
   abbrev ofPair : ℕ → ℕ → Bool
-  ofPair i account = hasAccount b account && inPair (rowAt (b .rows) (originatorOf i)) account
+  ofPair i account = hasAccount (b .setting) account && inPair (rowAt (b .setting .rows) (originatorOf i)) account
 
   abbrev withoutDay : ℕ → ℕ → ℕ
   withoutDay i account = cond (sound b) (cond (isHeld (b .ledger .held) i) (cond (ofPair i account) 16 15) 25) 1
@@ -51,7 +52,7 @@ module _ (b : Book contracts) where
   mark-no-account i D period account l =
       on (sound b) (λ s. on (isHeld (b .ledger .held) i) (λ h. rw (s, h, no-account b s account l)) (λ h. rw (s, h))) (λ s. rw s)
 
-  mark-no-period : (i account D period : ℕ) → (sound b ≡ true → isPeriod (b .time) D period ≡ false)
+  mark-no-period : (i account D period : ℕ) → (sound b ≡ true → isPeriod (b .setting .time) D period ≡ false)
       → marked b i account D period ≡ refusedMark (withoutDay i account)
   unfolding answer markRules seenBar mark marked
   mark-no-period i account D period none =
@@ -102,7 +103,7 @@ module _ (b : Book contracts) where
   unfolding answer rowRules rowPlace
   row-no-identifier D side i l = on (sound b) (λ s. rw (s, none-held b s i l)) (λ s. rw s)
 
-  row-no-day-or-side : (i D side : ℕ) → (sound b ≡ true → hasDay (b .time) D && between 1 2 side ≡ false) → rowAsked i D side ≡ noRow (withoutSide i)
+  row-no-day-or-side : (i D side : ℕ) → (sound b ≡ true → hasDay (b .setting .time) D && between 1 2 side ≡ false) → rowAsked i D side ≡ noRow (withoutSide i)
   unfolding answer rowRules rowPlace
   row-no-day-or-side i D side none =
       on (sound b) (λ s. on (isHeld (b .ledger .held) i) (λ h. rw (s, h, none s)) (λ h. rw (s, h))) (λ s. rw s)
@@ -118,7 +119,7 @@ module _ (b : Book contracts) where
           narrowed-identifier (λ (i : ℕ). marked b i a d p) originator reference (mark-no-identifier a d p) eo er
           ∙ narrowed (λ (k : ℕ). marked b identifier k d p) (mark-no-account identifier d p) ea
           ∙ narrowed (λ (k : ℕ). marked b identifier account k p) (λ k l. mark-no-period identifier account k p (λ s. no-period-of-day b s k p l)) ed
-          ∙ narrowed (λ (k : ℕ). marked b identifier account D k) (λ k l. mark-no-period identifier account D k (λ s. no-period (b .time) D k l)) ep
+          ∙ narrowed (λ (k : ℕ). marked b identifier account D k) (λ k l. mark-no-period identifier account D k (λ s. no-period (b .setting .time) D k l)) ep
 
       pub day-marks-narrowed : (cases : List ℕ) (firsts seconds : List Float) (account D : ℕ) {a d : ℕ} → a ≡ min account 255 → d ≡ min D 65535
           → dayMarks cases firsts seconds (identifierOf o r) a d ≡ dayMarks cases firsts seconds identifier account D
@@ -132,4 +133,4 @@ module _ (b : Book contracts) where
       row-narrowed D side {d} {s} ed es =
           narrowed-identifier (λ (i : ℕ). rowAsked i d s) originator reference (row-no-identifier d s) eo er
           ∙ narrowed (λ (k : ℕ). rowAsked identifier k s) (λ k l. row-no-day-or-side identifier k s (λ q. rw (no-day b q k l))) ed
-          ∙ narrowed (rowAsked identifier D) (λ k l. row-no-day-or-side identifier D k (λ q. rw (no-side k l) (and-false (hasDay (b .time) D)))) es
+          ∙ narrowed (rowAsked identifier D) (λ k l. row-no-day-or-side identifier D k (λ q. rw (no-side k l) (and-false (hasDay (b .setting .time) D)))) es

@@ -9,7 +9,8 @@ use Rattle.words.specs.Rules.{answer}
 use Rattle.laws.proofs.Cases.{on}
 use Rattle.meaning.specs.Time.{isPeriod}
 use Rattle.meaning.specs.Ledgers.{contracts}
-use Rattle.meaning.specs.Books.{Book, hasAccount}
+use Rattle.meaning.specs.Settings.{hasAccount}
+use Rattle.meaning.specs.Books.{Book}
 use Rattle.meaning.specs.Soundness.{sound}
 use Rattle.meaning.specs.Totals.{totalRules, total, figuresRules, figures, mwh}
 use Rattle.position.specs.Totals.{totalled, dayTotalRules, dayTotals, figured}
@@ -24,7 +25,7 @@ module _ (b : Book contracts) where
   withoutAccount = cond (sound b) 15 1
 
   abbrev withoutDay : ℕ → ℕ
-  withoutDay account = cond (sound b) (cond (hasAccount b account) 16 15) 1
+  withoutDay account = cond (sound b) (cond (hasAccount (b .setting) account) 16 15) 1
 
   -- ---- a total
 
@@ -35,18 +36,18 @@ module _ (b : Book contracts) where
   unfolding answer totalRules total totalled
   total-no-account D period account l = on (sound b) (λ s. rw (s, no-account b s account l)) (λ s. rw s)
 
-  total-no-period : (account D period : ℕ) → (sound b ≡ true → isPeriod (b .time) D period ≡ false)
+  total-no-period : (account D period : ℕ) → (sound b ≡ true → isPeriod (b .setting .time) D period ≡ false)
       → totalled b account D period ≡ refusedTotal (withoutDay account)
   unfolding answer totalRules total totalled
   total-no-period account D period none =
-      on (sound b) (λ s. on (hasAccount b account) (λ a. rw (s, a, none s)) (λ a. rw (s, a))) (λ s. rw s)
+      on (sound b) (λ s. on (hasAccount (b .setting) account) (λ a. rw (s, a, none s)) (λ a. rw (s, a))) (λ s. rw s)
 
   pub total-narrowed : (account D period : ℕ) {a d p : ℕ} → a ≡ min account 255 → d ≡ min D 65535 → p ≡ min period 255
       → totalled b a d p ≡ totalled b account D period
   total-narrowed account D period {a} {d} {p} ea ed ep =
       narrowed (λ (k : ℕ). totalled b k d p) (total-no-account d p) ea
       ∙ narrowed (λ (k : ℕ). totalled b account k p) (λ k l. total-no-period account k p (λ s. no-period-of-day b s k p l)) ed
-      ∙ narrowed (λ (k : ℕ). totalled b account D k) (λ k l. total-no-period account D k (λ s. no-period (b .time) D k l)) ep
+      ∙ narrowed (λ (k : ℕ). totalled b account D k) (λ k l. total-no-period account D k (λ s. no-period (b .setting .time) D k l)) ep
 
   -- ---- the totals of a day, and what is left of the buffer
 
@@ -55,13 +56,13 @@ module _ (b : Book contracts) where
     dayTotalled account D = (answer (dayTotalRules b account D (length lent)), dayTotals b account D lent)
 
     day-totals-no-account : (D account : ℕ) → 255 ≤ account → dayTotalled account D ≡ (withoutAccount, lent)
-    unfolding answer dayTotalRules dayTotals
+    unfolding answer figuresRules dayTotalRules dayTotals
     day-totals-no-account D account l = on (sound b) (λ s. rw (s, no-account b s account l)) (λ s. rw s)
 
     day-totals-no-day : (account D : ℕ) → 65535 ≤ D → dayTotalled account D ≡ (withoutDay account, lent)
-    unfolding answer dayTotalRules dayTotals
+    unfolding answer figuresRules dayTotalRules dayTotals
     day-totals-no-day account D l =
-        on (sound b) (λ s. on (hasAccount b account) (λ a. rw (s, a, no-day b s D l)) (λ a. rw (s, a))) (λ s. rw s)
+        on (sound b) (λ s. on (hasAccount (b .setting) account) (λ a. rw (s, a, no-day b s D l)) (λ a. rw (s, a))) (λ s. rw s)
 
     pub day-totals-narrowed : (account D : ℕ) {a d : ℕ} → a ≡ min account 255 → d ≡ min D 65535 → dayTotalled a d ≡ dayTotalled account D
     day-totals-narrowed account D {a} {d} ea ed =
@@ -79,7 +80,7 @@ module _ (b : Book contracts) where
   figures-no-day : (account D : ℕ) → 65535 ≤ D → figured b account D ≡ refusedFigures (withoutDay account)
   unfolding answer figuresRules figures figured
   figures-no-day account D l =
-      on (sound b) (λ s. on (hasAccount b account) (λ a. rw (s, a, no-day b s D l)) (λ a. rw (s, a))) (λ s. rw s)
+      on (sound b) (λ s. on (hasAccount (b .setting) account) (λ a. rw (s, a, no-day b s D l)) (λ a. rw (s, a))) (λ s. rw s)
 
   pub figures-narrowed : (account D : ℕ) {a d : ℕ} → a ≡ min account 255 → d ≡ min D 65535 → figured b a d ≡ figured b account D
   figures-narrowed account D {a} {d} ea ed =

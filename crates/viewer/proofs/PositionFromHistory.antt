@@ -8,23 +8,23 @@ use Prim.Native.Nat.{ℕ, suc, _*_, _-_, _<_}
 use native.Mathlib.Omega.{arith}
 use lib.IntN.{ℤ, pos}
 use lib.ListN.{length, getD}
-use borrow.Author.Tests.{ltb-true, ltb-false, not-false}
+use borrow.Author.Tests.{ltb-false, not-false}
 use Rattle.words.specs.Below.{sumBelowℤ}
 use Rattle.words.specs.Rules.{answer}
 use Rattle.laws.proofs.Rules.{answer-none}
 use Rattle.meaning.specs.Time.{isPeriod}
+use Rattle.meaning.specs.Settings.{hasAccount}
 use Rattle.meaning.specs.Ledgers.{contracts}
-use Rattle.meaning.specs.Books.{openingRules, openedBook, hasAccount}
+use Rattle.meaning.specs.Books.{openingRules, openedBook}
 use Rattle.meaning.specs.Books as Meaning
 use Rattle.meaning.specs.Notifications.{notificationRules}
 use Rattle.meaning.specs.Calls.{Call}
 use Rattle.meaning.specs.History.{Event, after, eventsOf}
-use Rattle.meaning.specs.Totals.{mwh, totalRules}
+use Rattle.meaning.specs.Totals.{mwh, totalRules, figuresRules}
 use Rattle.meaning.specs.Bars.{Bar, mapBar, markRules, seenBar, mark}
 use Rattle.meaning.specs.FromHistory.{totalFromHistory, barFromHistory}
 use Rattle.meaning.specs.PackedSetups.{setupIn}
 use Rattle.meaning.proofs.Clock.{is-period-on}
-use Rattle.meaning.proofs.History.{SameBook, after-same}
 use Rattle.meaning.proofs.Shown.{agreedPart}
 use Rattle.meaning.proofs.TotalFromHistory.{total-answered, total-from-history}
 use Rattle.meaning.proofs.BarsFromHistory.{total-is-agreed, bar-from-history}
@@ -55,21 +55,47 @@ pub record FollowsHistory (t : State) (setup : Meaning.Setup) (slots : ℕ) (cal
   -- "An account's total is the sum over identifiers where both sides stand and are equal": what `total` answers, to every account of the book in
   -- every period of it
   pub totals : (account D period : ℕ) (r : Totalled) → r ≡ totalled (whole t) account D period
-      → account < setup .accounts → isPeriod (openedBook contracts setup slots .time) D period ≡ true
-      → r ≡ record { answer = 0; kwh = totalFromHistory (setup .rows) (eventsOf (openedBook contracts setup slots) calls) account D period }
+      → hasAccount (whole t .setting) account ≡ true → isPeriod (whole t .setting .time) D period ≡ true
+      → r ≡ record { answer = 0; kwh = totalFromHistory (whole t .setting) (eventsOf (openedBook contracts setup slots) calls) account D period }
   -- what `day_totals` leaves at each period's place, from 0, when it answers 0
   pub dayTotals : (account D : ℕ) (lent left : List ℤ) (r : ℕ) → DayTotalled (t .book) (t .held) (t .side1) (t .side2) account D lent r left → r ≡ 0
-      → (period : ℕ) → isPeriod (openedBook contracts setup slots .time) D period ≡ true
-      → getD left (period - 1) (pos 0) ≡ totalFromHistory (setup .rows) (eventsOf (openedBook contracts setup slots) calls) account D period
+      → (period : ℕ) → isPeriod (whole t .setting .time) D period ≡ true
+      → getD left (period - 1) (pos 0) ≡ totalFromHistory (whole t .setting) (eventsOf (openedBook contracts setup slots) calls) account D period
   -- what `mark` shows of an identifier when it answers 0
   pub bars : (i account D period : ℕ) (r : Marked) → r ≡ marked (whole t) i account D period → r .answer ≡ 0
-      → r .bar ≡ barFor (mapBar mwh (barFromHistory (setup .rows) (eventsOf (openedBook contracts setup slots) calls) account D period i))
+      → r .bar ≡ barFor (mapBar mwh (barFromHistory (whole t .setting) (eventsOf (openedBook contracts setup slots) calls) account D period i))
   -- and the bars show what `total` answers: it is the sum, over every identifier, of what its bar shows as Agreed, in whole kWh
   pub shown : (account D period : ℕ) (r : Totalled) → r ≡ totalled (whole t) account D period → r .answer ≡ 0
-      → r .kwh ≡ sumBelowℤ (length (setup .rows) * 65536) (λ i. agreedPart (barFromHistory (setup .rows) (eventsOf (openedBook contracts setup slots) calls) account D period i))
+      → r .kwh ≡ sumBelowℤ (length (whole t .setting .rows) * 65536) (λ i. agreedPart (barFromHistory (whole t .setting) (eventsOf (openedBook contracts setup slots) calls) account D period i))
   -- "No slot is freed within a book, so 14 comes exactly when that many different identifiers have been accepted": what `notify` answers
   pub fourteen : (n : Notification) (r : Notified) (h : List ℕ) (l1 l2 : List ℤ) → Notifies (t .book) (t .held) (t .side1) (t .side2) n r h l1 l2
       → (r .answer ≡ 14) ↔ (PassesThirteen (whole t) (notificationOf n) × NewAndFull setup slots calls (notificationOf n))
+
+-- ---- a question that is answered is about an account and a period of the book
+
+module _ (w : Meaning.Book contracts) where
+  total-asked : (account D period : ℕ) → answer (totalRules w account D period) ≡ 0
+      → (hasAccount (w .setting) account ≡ true) × (isPeriod (w .setting .time) D period ≡ true)
+  unfolding totalRules
+  total-asked account D period e =
+      let none = answer-none (totalRules w account D period) refl e in
+      (not-false (hasAccount (w .setting) account) (none 1), not-false (isPeriod (w .setting .time) D period) (none 2))
+
+  mark-asked : (i account D period : ℕ) → answer (markRules w i account D period) ≡ 0 → isPeriod (w .setting .time) D period ≡ true
+  unfolding markRules
+  mark-asked i account D period e = not-false (isPeriod (w .setting .time) D period) (answer-none (markRules w i account D period) refl e 3)
+
+  day-asked : (account D room : ℕ) → answer (dayTotalRules w account D room) ≡ 0 → hasAccount (w .setting) account ≡ true
+  unfolding figuresRules dayTotalRules
+  day-asked account D room e = not-false (hasAccount (w .setting) account) (answer-none (dayTotalRules w account D room) refl e 1)
+
+  day-inside : (account D room period : ℕ) → answer (dayTotalRules w account D room) ≡ 0 → isPeriod (w .setting .time) D period ≡ true
+      → (period - 1 < dayPeriods w D) × (period - 1 < room) × (suc (period - 1) ≡ period)
+  unfolding figuresRules dayTotalRules
+  day-inside account D room period e p =
+      let q = is-period-on (w .setting .time) D period p .1 in
+      let enough = ltb-false room (dayPeriods w D) (answer-none (dayTotalRules w account D room) refl e 3) in
+      (omega (arith, q .low, q .high), omega (arith, q .low, q .high, enough), omega (arith, q .low))
 
 -- ---- of any book that calls have led to
 
@@ -81,58 +107,22 @@ module _ (setup : Meaning.Setup) (slots lent1 lent2 : ℕ) (opening : answer (op
   abbrev events : List (Event contracts)
   events = eventsOf begun calls
 
-  -- it has the days and the accounts that it was opened with
-  same-periods : (D period : ℕ) → isPeriod (w .time) D period ≡ isPeriod (begun .time) D period
-  unfolding isPeriod
-  same-periods D period =
-      let s : SameBook begun (after begun calls) = after-same begun calls in
-      rw (reached, s .first, s .codes)
-
-  known-account : (account : ℕ) → hasAccount w account ≡ true → account < setup .accounts
-  unfolding openedBook
-  known-account account a =
-      let s : SameBook begun (after begun calls) = after-same begun calls in
-      let n : w .accounts ≡ setup .accounts = ap (λ (x : Meaning.Book contracts). x .accounts) reached ∙ s .accounts in
-      ltb-true account (setup .accounts) (rw n at a)
-
-  module _ (account D period : ℕ) (p : isPeriod (begun .time) D period ≡ true) where
-    total-follows : account < setup .accounts → totalled w account D period ≡ record { answer = 0; kwh = totalFromHistory (setup .rows) events account D period }
+  module _ (account D period : ℕ) (p : isPeriod (w .setting .time) D period ≡ true) where
+    total-follows : hasAccount (w .setting) account ≡ true
+        → totalled w account D period ≡ record { answer = 0; kwh = totalFromHistory (w .setting) events account D period }
     unfolding totalled
-    total-follows known =
+    total-follows inBook =
+        let there = rw reached at p in
+        let here = rw reached at inBook in
         rw reached
         (λ j. record {
-          answer = total-answered setup slots lent1 lent2 opening calls account D period p known j;
-          kwh = total-from-history setup slots lent1 lent2 opening calls account D period p known j;
+          answer = total-answered setup slots lent1 lent2 opening calls account D period there here j;
+          kwh = total-from-history setup slots lent1 lent2 opening calls account D period there here j;
         })
 
-    bar-follows : (i : ℕ) → answer (markRules w i account D period) ≡ 0 → seenBar w i account D period ≡ barFromHistory (setup .rows) events account D period i
+    bar-follows : (i : ℕ) → answer (markRules w i account D period) ≡ 0 → seenBar w i account D period ≡ barFromHistory (w .setting) events account D period i
     bar-follows i e =
-        rw reached (bar-from-history setup slots lent1 lent2 opening calls account D period i p (rw reached at e))
-
-  -- a question that is answered is about an account and a period of the book
-  total-asked : (account D period : ℕ) → answer (totalRules w account D period) ≡ 0 → (account < setup .accounts) × (isPeriod (begun .time) D period ≡ true)
-  unfolding totalRules
-  total-asked account D period e =
-      let none = answer-none (totalRules w account D period) refl e in
-      (known-account account (not-false (hasAccount w account) (none 1)), sym (same-periods D period) ∙ not-false (isPeriod (w .time) D period) (none 2))
-
-  mark-asked : (i account D period : ℕ) → answer (markRules w i account D period) ≡ 0 → isPeriod (begun .time) D period ≡ true
-  unfolding markRules
-  mark-asked i account D period e =
-      sym (same-periods D period) ∙ not-false (isPeriod (w .time) D period) (answer-none (markRules w i account D period) refl e 3)
-
-  day-asked : (account D room : ℕ) → answer (dayTotalRules w account D room) ≡ 0 → account < setup .accounts
-  unfolding dayTotalRules
-  day-asked account D room e =
-      known-account account (not-false (hasAccount w account) (answer-none (dayTotalRules w account D room) refl e 1))
-
-  day-inside : (account D room period : ℕ) → answer (dayTotalRules w account D room) ≡ 0 → isPeriod (begun .time) D period ≡ true
-      → (period - 1 < dayPeriods w D) × (period - 1 < room) × (suc (period - 1) ≡ period)
-  unfolding dayTotalRules
-  day-inside account D room period e p =
-      let q = is-period-on (w .time) D period (same-periods D period ∙ p) .1 in
-      let enough = ltb-false room (dayPeriods w D) (answer-none (dayTotalRules w account D room) refl e 3) in
-      (omega (arith, q .low, q .high), omega (arith, q .low, q .high, enough), omega (arith, q .low))
+        rw reached (bar-from-history setup slots lent1 lent2 opening calls account D period i (rw reached at p) (rw reached at e))
 
   fourteen-follows : (n : Notification) → (answer (notificationRules w (notificationOf n)) ≡ 14) ↔ (PassesThirteen w (notificationOf n) × NewAndFull setup slots calls (notificationOf n))
   fourteen-follows n = rw reached (fourteen-always setup slots calls (notificationOf n))
@@ -145,33 +135,33 @@ module _ (setup : Meaning.Setup) (slots lent1 lent2 : ℕ) (opening : answer (op
   history = eventsOf (openedBook contracts setup slots) calls
 
   day-total-follows : (account D : ℕ) (lent left : List ℤ) (r : ℕ) → DayTotalled (t .book) (t .held) (t .side1) (t .side2) account D lent r left → r ≡ 0
-      → (period : ℕ) → isPeriod (openedBook contracts setup slots .time) D period ≡ true
-      → getD left (period - 1) (pos 0) ≡ totalFromHistory (setup .rows) history account D period
+      → (period : ℕ) → isPeriod (whole t .setting .time) D period ≡ true
+      → getD left (period - 1) (pos 0) ≡ totalFromHistory (whole t .setting) history account D period
   day-total-follows account D lent left r promise e period p =
       let done : answer (dayTotalRules (whole t) account D (length lent)) ≡ 0 = sym (promise .0) ∙ e in
-      let inside = day-inside setup slots lent1 lent2 opening calls (whole t) reached account D (length lent) period done p in
+      let inside = day-inside (whole t) account D (length lent) period done p in
       ap (λ (l : List ℤ). getD l (period - 1) (pos 0)) (promise .1)
       ∙ day-total-is-total (t .book) (t .held) (t .side1) (t .side2) account D lent done (period - 1) (inside .0) (inside .1)
       ∙ ap (λ (x : ℕ). totalled (whole t) account D x .kwh) (inside .2)
       ∙ ap (λ (x : Totalled). x .kwh)
-      (total-follows setup slots lent1 lent2 opening calls (whole t) reached account D period p (day-asked setup slots lent1 lent2 opening calls (whole t) reached account D (length lent) done))
+      (total-follows setup slots lent1 lent2 opening calls (whole t) reached account D period p (day-asked (whole t) account D (length lent) done))
 
   bar-shown : (i account D period : ℕ) (r : Marked) → r ≡ marked (whole t) i account D period → r .answer ≡ 0
-      → r .bar ≡ barFor (mapBar mwh (barFromHistory (setup .rows) history account D period i))
+      → r .bar ≡ barFor (mapBar mwh (barFromHistory (whole t .setting) history account D period i))
   unfolding marked mark
   bar-shown i account D period r promise e =
       let done : answer (markRules (whole t) i account D period) ≡ 0 = sym (ap (λ (x : Marked). x .answer) promise) ∙ e in
-      let p = mark-asked setup slots lent1 lent2 opening calls (whole t) reached i account D period done in
+      let p = mark-asked (whole t) i account D period done in
       ap (λ (x : Marked). x .bar) promise
       ∙ ap (λ (x : Bar ℤ). barFor (mapBar mwh x)) (bar-follows setup slots lent1 lent2 opening calls (whole t) reached account D period p i done)
 
   total-shown-agreed : (account D period : ℕ) (r : Totalled) → r ≡ totalled (whole t) account D period → r .answer ≡ 0
-      → r .kwh ≡ sumBelowℤ (length (setup .rows) * 65536) (λ i. agreedPart (barFromHistory (setup .rows) history account D period i))
+      → r .kwh ≡ sumBelowℤ (length (whole t .setting .rows) * 65536) (λ i. agreedPart (barFromHistory (whole t .setting) history account D period i))
   unfolding totalled
   total-shown-agreed account D period r promise e =
-      let asked = total-asked setup slots lent1 lent2 opening calls (whole t) reached account D period (sym (ap (λ (x : Totalled). x .answer) promise) ∙ e) in
+      let asked = total-asked (whole t) account D period (sym (ap (λ (x : Totalled). x .answer) promise) ∙ e) in
       ap (λ (x : Totalled). x .kwh) (promise ∙ total-follows setup slots lent1 lent2 opening calls (whole t) reached account D period (asked .1) (asked .0))
-      ∙ total-is-agreed (setup .rows) history account D period
+      ∙ total-is-agreed (whole t .setting) history account D period
 
   fourteen-answered : (n : Notification) (r : Notified) (h : List ℕ) (l1 l2 : List ℤ) → Notifies (t .book) (t .held) (t .side1) (t .side2) n r h l1 l2
       → (r .answer ≡ 14) ↔ (PassesThirteen (whole t) (notificationOf n) × NewAndFull setup slots calls (notificationOf n))

@@ -1,7 +1,6 @@
 -- An unheld slot holds none; of a held one its identifier and both rows' accounts are tested.
 use borrow.Author.Needs.{needs}
 use mathlib.Core.Bool.{not, _&&_}
-use mathlib.Core.List.{[]}
 use mathlib.Core.Path.{_≡_, refl, sym, ap, ap₂, _∙_}
 use Prim.Native.Nat.{_+_, _-_, _*_}
 use lib.ListN.{getD}
@@ -10,7 +9,7 @@ use Rattle.meaning.specs.Authorisations.{Authorisation, sameAccounts}
 use Rattle.meaning.specs.Notifications.{isOther}
 use Rattle.messages.specs.Structs.{notificationOf}
 use Rattle.setups.specs.Structs.{noAuthorisation}
-use Rattle.book.specs.Structs.{originPlace, originRow, bookOf}
+use Rattle.book.specs.Structs.{originPlace, originRow, settingIn}
 use Rattle.book.proofs.StateLaws.{rows-length, origin-read}
 use Rattle.kinds.proofs.KindLaws.{other-held}
 use Rattle.kinds.proofs.is_other.Statement.{statement}
@@ -48,7 +47,7 @@ returns-2 c =
     called .origin-row .ensures ∙ ap (originRow (a .b .setup .authorisations) (a .entry)) (start .pre .0) in
     ap₂ (λ (o m : Authorisation). not ((a .entry - 1) =? (a .n .originator * 65536 + a .n .reference)) && sameAccounts o m)
     (origin-read (a .b .setup) (a .entry) (rows-length (a .b) (start .good .0)) refl read) (start .pre .1)
-    ∙ sym (other-held (bookOf (a .b) [] [] []) (notificationOf (a .n)) (a .entry) (called .before .before .before .if1 .left))
+    ∙ sym (other-held (settingIn (a .b)) (notificationOf (a .n)) (a .entry) (called .before .before .before .if1 .left))
 
 pub is-other-spec : {M : Type 1} → statement M
 is-other-spec =

@@ -17,7 +17,7 @@ use Rattle.setups.proofs.SetupHeld.{codes-own}
 use Rattle.book.specs.Structs.{bookOf, timeIn}
 use Rattle.book.proofs.StateLaws.{place-few}
 use Rattle.kinds.specs.Kinds.{periodsWithin}
-use Rattle.kinds.proofs.KindLaws.{some-keep, some-upto, onPeriod, onDay, slot-skip, slot-miss, slot-hit, day-miss, day-hit, closed-miss, open-states, within-few, slot-inside, place-inside, other-any}
+use Rattle.kinds.proofs.KindLaws.{some-keep, some-upto, onPeriod, onDay, slot-skip, slot-miss, slot-hit, day-miss, day-hit, closed-miss, open-states, within-few, slot-inside, place-inside}
 use Rattle.kinds.proofs.is_overlapped.Statement.{statement}
 use Rattle.kinds.proofs.is_overlapped.Tie as tie
 
@@ -206,10 +206,9 @@ search-again c =
     let m = bookOf (a .b) (now (a .held)) (now (a .side1)) (now (a .side2)) in
     let n = notificationOf (a .n) in
     let s = slot .search .s in
-    let o = other-any (a .b) (now (a .held)) (now (a .side1)) (now (a .side2)) n (getD (now (a .held)) s 0) in
     ⊎-elim
     (λ w. (w .3 ∙ w .1 .inv .0, some-keep _ _ (slot .search .inv .1) (slot-miss m n s (w .1 .d) (w .1 .inv .1) (rw (codes-own (a .b .setup .days) (a .b .setup .codes)) (w .2 .left)))))
-    (λ w. (w .1 ∙ slot .search .inv .0, some-keep _ _ (slot .search .inv .1) (slot-skip m n s (o ∙ sym (c .before .is-other .ensures) ∙ w .0 .left))))
+    (λ w. (w .1 ∙ slot .search .inv .0, some-keep _ _ (slot .search .inv .1) (slot-skip m n s (sym (c .before .is-other .ensures) ∙ w .0 .left))))
     (c .if1 .came)
 
 returns : tie.Need-returns Inv-loop2 μ-loop2 Inv-loop μ-loop Inv-search μ-search
@@ -237,11 +236,10 @@ returns-2 c =
     let p = period .loop2 .p in
     let l : a .b .closed - gatesBefore (timeIn (a .b) .codes) d ≤ p = omega (arith, first .first-open .ensures, period .loop2 .inv .1 .0) in
     let stated = open-states (a .b) (a .n) (a .mine) (start .pre .1) (sides .before .writes-side1 .ensures) (sides .writes-side2 .ensures) (now (a .held)) (now (a .side1)) (now (a .side2)) s d p (c .before .states-at .ensures) l in
-    let o = other-any (a .b) (now (a .held)) (now (a .side1)) (now (a .side2)) n (getD (now (a .held)) s 0) in
     let q : p < periodsWithin (timeIn (a .b)) (n .first) (n .last) d = rw (← periods .periods-within .ensures) (period-taken .loop2-test .taken) in
     sym
     (some-hit (length (now (a .held))) (overlaps m n) s (slot-taken .search-test .taken)
-    (slot-hit m n s d (o ∙ sym (other .before .is-other .ensures) ∙ other .if1 .taken) (rw (codes-own (a .b .setup .days) (a .b .setup .codes)) (day-taken .loop-test .taken))
+    (slot-hit m n s d (sym (other .before .is-other .ensures) ∙ other .if1 .taken) (rw (codes-own (a .b .setup .days) (a .b .setup .codes)) (day-taken .loop-test .taken))
     (day-hit m n s d p q (stated ∙ c .if2 .taken))))
 
 pub is-overlapped-spec : {M : Type 1} → statement M

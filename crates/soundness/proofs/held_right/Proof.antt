@@ -9,13 +9,14 @@ use lib.ListN.{length, getD}
 use Rattle.words.specs.Below.{everyBelow}
 use Rattle.laws.proofs.Below.{every-none, every-more}
 use Rattle.meaning.specs.Soundness.{slotRight}
+use Rattle.soundness.specs.Parts.{below}
 use Rattle.soundness.proofs.Slots.{held-below}
 use Rattle.soundness.proofs.held_right.Statement.{statement}
 use Rattle.soundness.proofs.held_right.Tie as tie
 
 abbrev Inv-loop : tie.InvT-loop
 Inv-loop held known ok₀ k₀ k-end ok k =
-    (k-end ≡ length held) × (k ≤ length held) × (ok ≡ everyBelow k (λ (j : ℕ). slotRight known held j (getD held j 0)))
+    (k-end ≡ length held) × (k ≤ length held) × (ok ≡ everyBelow k (λ (j : ℕ). slotRight (below known) held j (getD held j 0)))
 
 abbrev μ-loop : tie.MeasureT-loop
 μ-loop held known ok₀ k₀ k-end ok k = length held - k
@@ -37,14 +38,14 @@ loop-again c =
     let a = c .before .before .before .before .args in
     let l = c .before .before .loop in
     let held = now (a .held) in
-    (l .inv .0, omega arith, ap₂ _&&_ (l .inv .2) (c .slot-right .ensures) ∙ sym (every-more (l .k) (λ (j : ℕ). slotRight (a .known) held j (getD held j 0))))
+    (l .inv .0, omega arith, ap₂ _&&_ (l .inv .2) (c .slot-right .ensures) ∙ sym (every-more (l .k) (λ (j : ℕ). slotRight (below (a .known)) held j (getD held j 0))))
 
 returns : tie.Need-returns Inv-loop μ-loop
 returns c =
     let a = c .before .before .before .args in
     let l = c .before .loop in
     let e : l .k ≡ length (now (a .held)) = omega arith in
-    l .inv .2 ∙ rw e (sym (held-below (a .known) (now (a .held))))
+    l .inv .2 ∙ rw e (sym (held-below (below (a .known)) (now (a .held))))
 
 pub held-right-spec : {M : Type 1} → statement M
 held-right-spec =

@@ -4,6 +4,7 @@ use mathlib.Core.Path.{refl, sym, _∙_}
 use native.Mathlib.Omega.{arith}
 use denote.Ref.{now}
 use lib.ListN.{getD}
+use Rattle.soundness.specs.Parts.{below}
 use Rattle.soundness.proofs.Slots.{slot-unheld, slot-held, found-here, part-before}
 use Rattle.soundness.proofs.slot_right.Statement.{statement}
 use Rattle.soundness.proofs.slot_right.Tie as tie
@@ -18,7 +19,7 @@ returns : tie.Need-returns
 returns c =
     let a = c .before .before .before .args in
     let held = now (a .held) in
-    sym (slot-unheld (a .known) held (a .k) (getD held (a .k) 0) (c .if1 .taken))
+    sym (slot-unheld (below (a .known)) held (a .k) (getD held (a .k) 0) (c .if1 .taken))
 
 sub-originator : tie.Need-sub-originator
 sub-originator c = search needs

@@ -16,7 +16,6 @@ use Rattle.messages.specs.Structs.{notificationOf}
 use Rattle.calls.specs.Answers.{notifiedOf}
 use Rattle.checks.specs.Checks.{checkRules}
 use Rattle.book.specs.Structs.{bookOf}
-use Rattle.checks.proofs.CheckLaws.{checks-need-no-table}
 use Rattle.effects.proofs.EffectLaws.{accepted-slot}
 use Rattle.calls.proofs.NotifyLaws.{early-answer, late-answer, late-same, notified-refused, notified-done, sound-fits, sound-kind}
 use Rattle.calls.proofs.sound_book.judge_notification.Statement.{statement}
@@ -38,10 +37,8 @@ module _ (c : tie.After-checks-refusal) where
   is-sound : sound (whole start) ≡ true
   is-sound = start .pre
 
-  checks : c .checks-refusal .result ≡ answer (checkRules (whole start) (note start))
-  checks =
-      let a = start .args in
-      c .checks-refusal .ensures ∙ ap answer (sym (checks-need-no-table (a .b) (now (a .held)) (now (a .side1)) (now (a .side2)) (note start)))
+  checks : c .checks-refusal .result ≡ answer (checkRules (whole start .setting) (note start))
+  checks = c .checks-refusal .ensures
 
 module _ (c : tie.After-late-refusal) where
   abbrev checked : tie.After-checks-refusal
@@ -52,7 +49,7 @@ module _ (c : tie.After-late-refusal) where
       let a = start checked .args in
       c .before .before .before .before .kind-of .ensures ∙ sound-kind (a .b) (now (a .held)) (now (a .side1)) (now (a .side2)) (note (start checked)) (is-sound checked)
 
-  type : c .before .before .row-of .result .amendment ≡ under (whole (start checked)) (note (start checked)) .type
+  type : c .before .before .row-of .result .amendment ≡ under (whole (start checked) .setting) (note (start checked)) .type
   unfolding notificationOf
   type = ap (λ (row : Authorisation). row .type) (c .before .before .row-of .ensures)
 

@@ -2,20 +2,19 @@
 use borrow.Author.Needs.{needs}
 use borrow.Author.Tests.{lt-ltb, le-ltb}
 use mathlib.Core.Bool.{false, not}
-use mathlib.Core.List.{[]}
 use mathlib.Core.Path.{_≡_, sym, ap, _∙_}
 use Prim.Native.Nat.{_<_}
 use Rattle.laws.proofs.RuleByRule.{Answers, answered}
-use Rattle.meaning.specs.Books.{hasAuthorisation}
+use Rattle.meaning.specs.Settings as Settings
 use Rattle.messages.specs.Structs.{notificationOf}
 use Rattle.setups.proofs.SetupHeld.{rows-own}
-use Rattle.book.specs.Structs.{bookOf}
+use Rattle.book.specs.Structs.{settingIn}
 use Rattle.checks.proofs.CheckLaws.{key-test, force-test}
 use Rattle.checks.proofs.notifications.authorisation_refusal.Statement.{statement}
 use Rattle.checks.proofs.notifications.authorisation_refusal.Tie as tie
 
 known : (s : tie.Start) → s .args .n .authorisation < s .args .b .setup .authorisations
-    → not (hasAuthorisation (bookOf (s .args .b) [] [] []) (notificationOf (s .args .n) .authorisation)) ≡ false
+    → not (Settings.known (settingIn (s .args .b)) (notificationOf (s .args .n) .authorisation)) ≡ false
 unfolding notificationOf
 known s h = rw rows-own (ap not (lt-ltb (s .args .n .authorisation) (s .args .b .setup .authorisations) h))
 

@@ -1,25 +1,26 @@
 -- Part by part: a part's refusal is the answer, and where it has none the parts after it answer.
 use borrow.Author.Needs.{needs}
-use mathlib.Core.List.{List, [], _++_}
+use mathlib.Core.List.{List, _++_}
 use mathlib.Core.Path.{refl, sym, _∙_}
 use Rattle.words.specs.Rules.{Rule}
 use Rattle.laws.proofs.RuleByRule.{Answers, answered, part-met, part-passed}
+use Rattle.meaning.specs.Notifications.{authorisationRules, dayRules, entryRules}
 use Rattle.messages.specs.Structs.{notificationOf}
-use Rattle.book.specs.Structs.{bookOf}
-use Rattle.checks.specs.Checks.{authorisationRules, dayRules, entryRules, checkRules}
+use Rattle.book.specs.Structs.{settingIn}
+use Rattle.checks.specs.Checks.{checkRules}
 use Rattle.checks.proofs.CheckLaws.{gates-test, today-is}
 use Rattle.checks.proofs.notifications.checks_refusal.Statement.{statement}
 use Rattle.checks.proofs.notifications.checks_refusal.Tie as tie
 
 module _ (s : tie.Start) where
   abbrev authorisation : List Rule
-  authorisation = authorisationRules (bookOf (s .args .b) [] [] []) (notificationOf (s .args .n))
+  authorisation = authorisationRules (settingIn (s .args .b)) (notificationOf (s .args .n))
 
   abbrev days : List Rule
-  days = dayRules (bookOf (s .args .b) [] [] []) (notificationOf (s .args .n))
+  days = dayRules (settingIn (s .args .b)) (notificationOf (s .args .n))
 
   abbrev entries : List Rule
-  entries = entryRules (bookOf (s .args .b) [] [] []) (notificationOf (s .args .n))
+  entries = entryRules (settingIn (s .args .b)) (notificationOf (s .args .n))
 
 clock-of-requires : tie.Need-clock-of-requires
 clock-of-requires c κs = search needs

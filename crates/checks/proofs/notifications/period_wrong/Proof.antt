@@ -1,7 +1,6 @@
 -- No period that was passed is wrong, and `before` is the last of them; the first that is wrong ends the search.
 use borrow.Author.Needs.{needs}
 use mathlib.Core.Bool.{true, false}
-use mathlib.Core.List.{[]}
 use mathlib.Core.Path.{_≡_, refl, sym, ap, _∙_}
 use Prim.Native.Nat.{ℕ, _-_, _≤_}
 use native.Mathlib.Numerals.{add-one}
@@ -11,7 +10,7 @@ use Rattle.words.specs.Below.{someBelow}
 use Rattle.laws.proofs.Below.{some-none, some-more, some-hit}
 use Rattle.meaning.specs.Notifications.{periodWrong}
 use Rattle.messages.specs.Structs.{notificationOf}
-use Rattle.book.specs.Structs.{bookOf}
+use Rattle.book.specs.Structs.{settingIn}
 use Rattle.checks.proofs.CheckLaws.{prior, wrongPeriod, periodOf, periods-wrong}
 use Rattle.checks.proofs.notifications.period_wrong.Statement.{statement}
 use Rattle.checks.proofs.notifications.period_wrong.Tie as tie
@@ -26,7 +25,7 @@ abbrev μ-loop : tie.MeasureT-loop
 returns : tie.Need-returns Inv-loop μ-loop
 returns c =
     let a = c .before .args in
-    sym (periods-wrong (bookOf (a .b) [] [] []) (a .t2) ∙ rw (lt-ltb 50 (a .t2 .count) (c .if1 .taken)))
+    sym (periods-wrong (settingIn (a .b)) (a .t2) ∙ rw (lt-ltb 50 (a .t2 .count) (c .if1 .taken)))
 
 highest-period-requires : tie.Need-highest-period-requires Inv-loop μ-loop
 highest-period-requires c κs = search needs
@@ -34,11 +33,11 @@ highest-period-requires c κs = search needs
 -- what the whole search answers
 found : (c : tie.After-highest-period Inv-loop μ-loop)
     → someBelow (c .before .before .args .t2 .count) (wrongPeriod 0 (c .highest-period .result) (periodOf (c .before .before .args .t2)))
-    ≡ periodWrong (bookOf (c .before .before .args .b) [] [] []) (notificationOf (c .before .before .args .t2))
+    ≡ periodWrong (settingIn (c .before .before .args .b)) (notificationOf (c .before .before .args .t2))
 found c =
     let a = c .before .before .args in
     ap (λ (h : ℕ). someBelow (a .t2 .count) (wrongPeriod 0 h (periodOf (a .t2)))) (c .highest-period .ensures)
-    ∙ sym (periods-wrong (bookOf (a .b) [] [] []) (a .t2) ∙ rw (le-ltb 50 (a .t2 .count) (c .before .if1 .left)))
+    ∙ sym (periods-wrong (settingIn (a .b)) (a .t2) ∙ rw (le-ltb 50 (a .t2 .count) (c .before .if1 .left)))
 
 loop-holds : tie.Need-loop-holds Inv-loop μ-loop
 loop-holds c = (omega arith, refl, some-none _)

@@ -1,6 +1,6 @@
 -- The three tests as they stand.
 use mathlib.Core.Path.{refl}
-use Rattle.checks.specs.Checks.{accountsWrong}
+use Rattle.meaning.specs.Calls.{accountsWrong}
 use Rattle.checks.proofs.nullifications.accounts_wrong.Statement.{statement}
 use Rattle.checks.proofs.nullifications.accounts_wrong.Tie as tie
 

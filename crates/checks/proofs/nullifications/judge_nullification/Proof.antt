@@ -5,7 +5,7 @@ use mathlib.Core.Path.{sym, _∙_}
 use Prim.Native.Nat.{_+_}
 use Rattle.laws.proofs.RuleByRule.{Answers, answered}
 use Rattle.setups.proofs.SetupHeld.{codes-own}
-use Rattle.checks.specs.Checks.{pairRules}
+use Rattle.checks.specs.Checks.{pairCheckRules}
 use Rattle.checks.proofs.CheckLaws.{gates-test}
 use Rattle.checks.proofs.nullifications.judge_nullification.Statement.{statement}
 use Rattle.checks.proofs.nullifications.judge_nullification.Tie as tie
@@ -17,7 +17,7 @@ every-gate-closed-requires : tie.Need-every-gate-closed-requires
 every-gate-closed-requires c κs = search needs
 
 returns : tie.Need-returns
-unfolding pairRules
+unfolding pairCheckRules
 returns c =
     let time : tie.After-clock-of = search in
     let start : tie.Start = search in
@@ -27,7 +27,7 @@ accounts-wrong-requires : tie.Need-accounts-wrong-requires
 accounts-wrong-requires c κs = search needs
 
 returns-2 : tie.Need-returns-2
-unfolding pairRules
+unfolding pairCheckRules
 returns-2 c =
     let some : tie.Else1 = search in
     let time : tie.After-clock-of = search in
@@ -49,7 +49,7 @@ cast-if3-3 : tie.Need-cast-if3-3
 cast-if3-3 c = search needs
 
 returns-3 : tie.Need-returns-3
-unfolding pairRules
+unfolding pairCheckRules
 returns-3 c =
     let paired : tie.Else2 = search in
     let some : tie.Else1 = search in
@@ -62,7 +62,7 @@ returns-3 c =
     (Answers.met (rw codes-own (le-leb (s .first + s .days) (start .args .x .first) (c .if3 .taken))))))
 
 returns-4 : tie.Need-returns-4
-unfolding pairRules
+unfolding pairCheckRules
 returns-4 c =
     let paired : tie.Else2 = search in
     let some : tie.Else1 = search in
