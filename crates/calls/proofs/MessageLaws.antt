@@ -17,9 +17,9 @@ use Rattle.meaning.specs.Books as Meaning
 use Rattle.meaning.specs.Soundness.{sound}
 use Rattle.meaning.specs.Notifications.{notified}
 use Rattle.meaning.specs.Calls as Calls
-use Rattle.meaning.specs.Calls.{message, gateRules, rulesFor, accepted, act}
+use Rattle.meaning.specs.Calls.{gateRules, rulesFor, accepted, act}
 use Rattle.meaning.specs.History.{after}
-use Rattle.meaning.specs.PackedMessages.{Packed, gate, notification, nullification, otherKind}
+use Rattle.meaning.specs.PackedMessages.{Packed, gate, message, otherKind}
 use Rattle.meaning.specs.PackedCalls.{callsOf, messageRules, kindGiven, slotGiven}
 use Rattle.messages.specs.declared.Message.{Message}
 use Rattle.messages.specs.Structs.{notificationOf, nullificationOf, messageOf}
@@ -42,11 +42,11 @@ module _ (m : Message) where
   unfolding messageOf
   kind-gate e = rw e
 
-  pub kind-notification : m .kind ≡ 1 → messageOf m ≡ notification (notificationOf (m .notification))
+  pub kind-notification : m .kind ≡ 1 → messageOf m ≡ message (Meant.notification (notificationOf (m .notification)))
   unfolding messageOf
   kind-notification e = rw e
 
-  pub kind-nullification : m .kind ≡ 2 → messageOf m ≡ nullification (nullificationOf (m .nullification))
+  pub kind-nullification : m .kind ≡ 2 → messageOf m ≡ message (Meant.nullification (nullificationOf (m .nullification)))
   unfolding messageOf
   kind-nullification e = rw e
 
@@ -99,23 +99,23 @@ module _ (b : Book) (held : List ℕ) (side1 side2 : List ℤ) where
 
   module _ (m : Message) where
     pub does-notification : (r : Notified) (h : List ℕ) (l1 l2 : List ℤ) → Notifies b held side1 side2 (m .notification) r h l1 l2
-        → Does b whole (notification (notificationOf (m .notification))) (record { answer = r .answer; kind = r .kind; slot = r .slot; book = b }) h l1 l2
+        → Does b whole (message (Meant.notification (notificationOf (m .notification)))) (record { answer = r .answer; kind = r .kind; slot = r .slot; book = b }) h l1 l2
     unfolding messageRules kindGiven slotGiven callsOf
     does-notification r h l1 l2 p =
         let n = notificationOf (m .notification) in
-        done-by b whole (afterCall whole (message (Meant.notification n))) (notification n) r h l1 l2
-        (after-one whole (message (Meant.notification n)))
+        done-by b whole (afterCall whole (Calls.message (Meant.notification n))) (message (Meant.notification n)) r h l1 l2
+        (after-one whole (Calls.message (Meant.notification n)))
         (p .0 ∙ ap (λ (k : ℕ). record { answer = k; kind = notified whole n .kind; slot = notified whole n .slot }) (notified-number whole n ∙ notification-answer whole n))
         (ap (λ (s : Setting). s .time .closed) (message-setting whole (Meant.notification n)))
         (p .1) (p .2) (p .3)
 
     pub does-nullification : (r : ℕ) (l1 l2 : List ℤ) → Nullifies b held side1 side2 (m .nullification) r l1 l2
-        → Does b whole (nullification (nullificationOf (m .nullification))) (record { answer = r; kind = 0; slot = 0; book = b }) held l1 l2
+        → Does b whole (message (Meant.nullification (nullificationOf (m .nullification)))) (record { answer = r; kind = 0; slot = 0; book = b }) held l1 l2
     unfolding messageRules kindGiven slotGiven callsOf
     does-nullification r l1 l2 p =
         let x = nullificationOf (m .nullification) in
-        done-by b whole (afterCall whole (message (Meant.nullification x))) (nullification x) (record { answer = r; kind = 0; slot = 0 }) held l1 l2
-        (after-one whole (message (Meant.nullification x)))
+        done-by b whole (afterCall whole (Calls.message (Meant.nullification x))) (message (Meant.nullification x)) (record { answer = r; kind = 0; slot = 0 }) held l1 l2
+        (after-one whole (Calls.message (Meant.nullification x)))
         (ap (λ (k : ℕ). record { answer = k; kind = 0; slot = 0 }) (p .0))
         (ap (λ (s : Setting). s .time .closed) (message-setting whole (Meant.nullification x)))
         (sym (nullification-held whole x)) (p .1) (p .2)

@@ -16,9 +16,9 @@ use Rattle.meaning.specs.Books.{Book}
 use Rattle.meaning.specs.Soundness.{sound}
 use Rattle.meaning.specs.Notifications.{notificationRules}
 use Rattle.meaning.specs.Calls as Calls
-use Rattle.meaning.specs.Calls.{Call, message, gateRules, nullificationRules, rulesFor, refusal, accepted}
+use Rattle.meaning.specs.Calls.{Call, gateRules, nullificationRules, rulesFor, refusal, accepted}
 use Rattle.meaning.specs.History.{after}
-use Rattle.meaning.specs.PackedMessages.{Packed, gate, notification, nullification, otherKind, readingRules, readMessage}
+use Rattle.meaning.specs.PackedMessages.{Packed, gate, message, otherKind, readingRules, readMessage}
 use Rattle.meaning.specs.PackedCalls.{callsOf, messageRules, kindGiven, slotGiven, applyRules, Applied, notApplied, applied, stepped, callsIn}
 use Rattle.meaning.proofs.PackedMessageRules.{reading-answer}
 use Rattle.meaning.proofs.PackedCalls.{stepped-read, stepped-unread, calls-unread, calls-one, after-none}
@@ -29,8 +29,8 @@ module _ (b : Book contracts) (unsound : sound b ≡ false) where
   pub unsound-refused : (c : Call contracts) → refusal b c ≡ 1
   unfolding answer rulesFor gateRules notificationRules nullificationRules
   unsound-refused Calls.gate = rw unsound
-  unsound-refused (message (Messages.notification n)) = rw unsound
-  unsound-refused (message (Messages.nullification x)) = rw unsound
+  unsound-refused (Calls.message (Messages.notification n)) = rw unsound
+  unsound-refused (Calls.message (Messages.nullification x)) = rw unsound
 
   pub unsound-after : (calls : List (Call contracts)) → after b calls ≡ b
   unfolding after run accepted
@@ -43,16 +43,15 @@ module _ (b : Book contracts) where
   pub numbered-message : (m : Packed) → numbered (messageRules b m) ≡ true
   unfolding messageRules rulesFor gateRules notificationRules nullificationRules
   numbered-message gate = refl
-  numbered-message (notification n) = refl
-  numbered-message (nullification x) = refl
+  numbered-message (message (Messages.notification n)) = refl
+  numbered-message (message (Messages.nullification x)) = refl
   numbered-message (otherKind k) = refl
 
   -- one that is refused leaves the book
   pub message-refused : (m : Packed) → answer (messageRules b m) ≢ 0 → after b (callsOf m) ≡ b
   unfolding messageRules callsOf after run accepted
   message-refused gate n = rw (ne-eqb (refusal b Calls.gate) 0 n)
-  message-refused (notification x) n = rw (ne-eqb (refusal b (message (Messages.notification x))) 0 n)
-  message-refused (nullification x) n = rw (ne-eqb (refusal b (message (Messages.nullification x))) 0 n)
+  message-refused (message m) n = rw (ne-eqb (refusal b (Calls.message m)) 0 n)
   message-refused (otherKind k) n = refl
 
 -- ---- which rule answers

@@ -12,7 +12,8 @@ use Rattle.laws.proofs.Cases.{on}
 use Rattle.laws.proofs.Bits.{Bytes}
 use Rattle.laws.proofs.Layouts.{read-fit}
 use Rattle.laws.proofs.Padded.{front-field, front-values}
-use Rattle.meaning.specs.PackedMessages.{Packed, gate, notification, nullification, otherKind, countIn, entriesOf, kindIn, kindOf, layoutFor, layoutIn, layoutOf, packedInto, readMessage, valuesOf, writeMessage, writingRules}
+use Rattle.meaning.specs.Messages.{notification, nullification}
+use Rattle.meaning.specs.PackedMessages.{Packed, gate, message, otherKind, countIn, entriesOf, kindIn, kindOf, layoutFor, layoutIn, layoutOf, packedInto, readMessage, valuesOf, writeMessage, writingRules}
 use Rattle.meaning.proofs.MessageValues.{Again, messageIn, layout-again, message-again, message-back, same-layout}
 use Rattle.meaning.proofs.PackedInto.{packed-behind, packed-length, packed-same, packed-values, packed-zero}
 use Rattle.meaning.proofs.PackedMessageRules.{Readable, Writable, readable, readable-done, reading-answer, reading-done, writable, writable-done, writing-answer, writing-done}
@@ -22,10 +23,10 @@ says : (t : List ℕ) (m : Packed) → kindOf m < 3 → readAll t 0 (layoutOf m)
     → (kindIn t ≡ kindOf m) × (countIn t ≡ length (entriesOf m))
 unfolding layoutOf layoutFor valuesOf countIn
 says t gate h e = let k : kindIn t ≡ 0 = ap (λ (vs : List ℕ). getD vs 0 0) e in (k, rw k)
-says t (notification n) h e =
+says t (message (notification n)) h e =
     let k : kindIn t ≡ 1 = ap (λ (vs : List ℕ). getD vs 0 0) e in
     (k, rw k (ap (λ (vs : List ℕ). getD vs 8 0) e))
-says t (nullification x) h e = let k : kindIn t ≡ 2 = ap (λ (vs : List ℕ). getD vs 0 0) e in (k, rw k)
+says t (message (nullification x)) h e = let k : kindIn t ≡ 2 = ap (λ (vs : List ℕ). getD vs 0 0) e in (k, rw k)
 says t (otherKind k) h e = absurd (omega arith)
 
 -- and are read as that message

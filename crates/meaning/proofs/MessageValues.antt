@@ -14,8 +14,8 @@ use Rattle.words.specs.Fields.{fieldAt, times, readAll}
 use Rattle.laws.proofs.Cases.{by-eq}
 use Rattle.laws.proofs.Fields.{field-lt}
 use Rattle.meaning.specs.Ledgers.{contracts, identifierOf, originatorOf, referenceOf}
-use Rattle.meaning.specs.Messages.{Entry, Notification, Nullification}
-use Rattle.meaning.specs.PackedMessages.{Packed, gate, notification, nullification, otherKind, countIn, layoutFor, layoutIn, layoutOf, entryLayout, entriesOf, kindIn, kindOf, messageFrom, notificationLayout, nullificationLayout, notificationFrom, valuesOf}
+use Rattle.meaning.specs.Messages.{Entry, Notification, Nullification, notification, nullification}
+use Rattle.meaning.specs.PackedMessages.{Packed, gate, message, otherKind, countIn, layoutFor, layoutIn, layoutOf, entryLayout, entriesOf, kindIn, kindOf, messageFrom, notificationLayout, nullificationLayout, notificationFrom, valuesOf}
 use Rattle.meaning.proofs.EntryValues.{signedIn28, entries-again, entries-back, entries-count, entries-signed}
 
 -- ---- identifiers
@@ -34,7 +34,7 @@ reference-again o r h = digits-mod o h
 
 -- ---- messages
 
-notification-back : (n : Notification contracts) → every signedIn28 (n .entries) ≡ true → notificationFrom (valuesOf (notification n)) ≡ n
+notification-back : (n : Notification contracts) → every signedIn28 (n .entries) ≡ true → notificationFrom (valuesOf (message (notification n))) ≡ n
 unfolding notificationFrom valuesOf
 notification-back n v =
     ap₂ (λ (i : ℕ) (es : List (Entry contracts)).
@@ -45,8 +45,8 @@ notification-back n v =
 pub message-back : (m : Packed) → kindOf m < 3 → every signedIn28 (entriesOf m) ≡ true → messageFrom (valuesOf m) ≡ m
 unfolding messageFrom valuesOf
 message-back gate k v = refl
-message-back (notification n) k v = ap notification (notification-back n v)
-message-back (nullification x) k v = refl
+message-back (message (notification n)) k v = ap (λ x. message (notification x)) (notification-back n v)
+message-back (message (nullification x)) k v = refl
 message-back (otherKind j) k v = absurd (omega arith)
 
 -- bytes that say a message's kind and count have its layout
@@ -72,14 +72,14 @@ module _ (s : List ℕ) where
   unfolding messageFrom valuesOf every
   from-nullification e =
       let x : Nullification = record { account = fieldAt s 2 6; other = fieldAt s 8 6; first = fieldAt s 14 16 } in
-      let m : messageFrom (readAll s 0 nullificationLayout) ≡ nullification x = rw e in
+      let m : messageFrom (readAll s 0 nullificationLayout) ≡ message (nullification x) = rw e in
       record { values = rw (m, e); kind = ap kindOf m ∙ sym e; count = rw m; signed = rw m }
 
   from-notification : (n : ℕ) → kindIn s ≡ 1 → fieldAt s 86 6 ≡ n → From (readAll s 0 (notificationLayout ++ times n entryLayout)) (kindIn s) n
   unfolding messageFrom notificationFrom valuesOf
   from-notification n e c =
       let vs : List ℕ = readAll s 0 (notificationLayout ++ times n entryLayout) in
-      let m : messageFrom vs ≡ notification (notificationFrom vs) = rw e in
+      let m : messageFrom vs ≡ message (notification (notificationFrom vs)) = rw e in
       let o : originatorOf (identifierOf (fieldAt s 32 6) (fieldAt s 38 16)) ≡ fieldAt s 32 6 = originator-again (fieldAt s 32 6) (fieldAt s 38 16) (field-lt s 38 16) in
       let r : referenceOf (identifierOf (fieldAt s 32 6) (fieldAt s 38 16)) ≡ fieldAt s 38 16 = reference-again (fieldAt s 32 6) (fieldAt s 38 16) (field-lt s 38 16) in
       record {

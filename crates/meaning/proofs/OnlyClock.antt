@@ -9,7 +9,7 @@ use Rattle.laws.proofs.Cases.{on}
 use Rattle.meaning.specs.Time.{withGateClosed}
 use Rattle.meaning.specs.Settings.{Setting, atClock}
 use Rattle.meaning.specs.Ledgers.{Sort, contracts}
-use Rattle.meaning.specs.Messages.{Message, notification, nullification}
+use Rattle.meaning.specs.Messages.{Message}
 use Rattle.meaning.specs.Books.{Book}
 use Rattle.meaning.specs.Calls.{Call, gate, message, accepted, act}
 use Rattle.meaning.specs.History.{event, after}
@@ -46,8 +46,7 @@ module _ {K : Sort} (b : Book K) where
 pub packed-moves-clock : (b : Book contracts) (p : Packed) → OnlyClock (b .setting) (after b (callsOf p) .setting)
 unfolding after run callsOf
 packed-moves-clock b Packed.gate = refused-or b gate (gate-acts b)
-packed-moves-clock b (Packed.notification n) = message-moves-clock b (notification n)
-packed-moves-clock b (Packed.nullification x) = message-moves-clock b (nullification x)
+packed-moves-clock b (Packed.message m) = message-moves-clock b m
 packed-moves-clock b (Packed.otherKind k) = refl
 
 pub run-moves-clock : (room : ℕ) (b : Book contracts) (bytes : List ℕ) → OnlyClock (b .setting) (after b (callsIn room bytes) .setting)

@@ -6,6 +6,7 @@ use Prim.Native.Nat.{ℕ}
 use lib.IntN.{ℤ, pos, negℤ}
 use lib.ListN.{replicate}
 use Rattle.words.specs.Tests.{_=?_}
+use Rattle.meaning.specs.Messages.{notification, nullification}
 use Rattle.meaning.specs.PackedMessages as Packed
 use Rattle.meaning.specs.PackedMessages.{Packed, Reading, Written, valuesOf, readMessage, writeMessage}
 use Rattle.meaning.proofs.Stories.{_/₁_, entry, letter, alike}
@@ -19,7 +20,7 @@ writes w number len out = w .answer =? number && w .length =? len && alike _=?_ 
 
 -- under 2 by agent 9 with key 700: 1/3, days 100 to 102, period 4: 5000 and period 6: -20
 abbrev someLetter : Packed
-someLetter = Packed.notification (letter 2 9 700 (1 /₁ 3) 100 102 (entry 4 (pos 5000) ∷ entry 6 (negℤ (pos 20)) ∷ []))
+someLetter = Packed.message (notification (letter 2 9 700 (1 /₁ 3) 100 102 (entry 4 (pos 5000) ∷ entry 6 (negℤ (pos 20)) ∷ [])))
 
 abbrev itsValues : List ℕ
 itsValues = 1 ∷ 2 ∷ 9 ∷ 700 ∷ 1 ∷ 3 ∷ 100 ∷ 102 ∷ 2 ∷ 4 ∷ 5000 ∷ 6 ∷ 268435436 ∷ []
@@ -59,15 +60,15 @@ theUnreadable =
 -- leaves all .. output buffers .. unchanged"
 abbrev theUnwritable : Bool
 theUnwritable =
-    let volume : ℤ → Packed = λ v. Packed.notification (letter 2 9 700 (1 /₁ 3) 100 102 (entry 4 v ∷ [])) in
+    let volume : ℤ → Packed = λ v. Packed.message (notification (letter 2 9 700 (1 /₁ 3) 100 102 (entry 4 v ∷ []))) in
     writes (writeMessage (Packed.otherKind 0) []) 20 0 []
-    && writes (writeMessage (Packed.nullification (record { account = 63; other = 1; first = 100 })) []) 24 0 []
-    && writes (writeMessage (Packed.nullification (record { account = 64; other = 1; first = 100 })) []) 23 0 []
+    && writes (writeMessage (Packed.message (nullification (record { account = 63; other = 1; first = 100 }))) []) 24 0 []
+    && writes (writeMessage (Packed.message (nullification (record { account = 64; other = 1; first = 100 }))) []) 23 0 []
     && writes (writeMessage (volume (pos 134217727)) []) 24 0 []
     && writes (writeMessage (volume (pos 134217728)) []) 23 0 []
     && writes (writeMessage (volume (negℤ (pos 134217728))) []) 24 0 []
-    && writes (writeMessage (Packed.notification (letter 2 9 700 (1 /₁ 3) 100 102 (replicate 50 (entry 4 (pos 5))))) []) 24 0 []
-    && writes (writeMessage (Packed.notification (letter 2 9 700 (1 /₁ 3) 100 102 (replicate 51 (entry 4 (pos 5))))) []) 23 0 []
+    && writes (writeMessage (Packed.message (notification (letter 2 9 700 (1 /₁ 3) 100 102 (replicate 50 (entry 4 (pos 5)))))) []) 24 0 []
+    && writes (writeMessage (Packed.message (notification (letter 2 9 700 (1 /₁ 3) 100 102 (replicate 51 (entry 4 (pos 5)))))) []) 23 0 []
     && writes (writeMessage someLetter (replicate 19 0xFF)) 24 0 (replicate 19 0xFF)
 
 abbrev pub packedMessages : List Bool

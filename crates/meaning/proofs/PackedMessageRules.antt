@@ -15,7 +15,8 @@ use Rattle.laws.proofs.Cases.{on, or-left, or-right}
 use Rattle.laws.proofs.Fields.{field-lt}
 use Rattle.laws.proofs.Layouts.{fit-first}
 use Rattle.laws.proofs.Rules.{passed, answer-none}
-use Rattle.meaning.specs.PackedMessages.{Packed, gate, notification, nullification, otherKind, countIn, entriesOf, kindIn, kindOf, layoutFor, layoutIn, layoutOf, packedInto, readMessage, readingRules, valueWrong, valuesOf, writeMessage, writingRules}
+use Rattle.meaning.specs.Messages.{notification, nullification}
+use Rattle.meaning.specs.PackedMessages.{Packed, gate, message, otherKind, countIn, entriesOf, kindIn, kindOf, layoutFor, layoutIn, layoutOf, packedInto, readMessage, readingRules, valueWrong, valuesOf, writeMessage, writingRules}
 use Rattle.meaning.proofs.EntryValues.{signedIn28}
 use Rattle.meaning.proofs.MessageValues.{messageIn}
 
@@ -99,8 +100,8 @@ pub record Writable (m : Packed) (room : ℕ) : Type 0 where
 kind-fits : (m : Packed) → fit (layoutOf m) (valuesOf m) ≡ true → kindOf m < 4
 unfolding layoutOf layoutFor valuesOf
 kind-fits gate f = omega arith
-kind-fits (notification n) f = omega arith
-kind-fits (nullification x) f = omega arith
+kind-fits (message (notification n)) f = omega arith
+kind-fits (message (nullification x)) f = omega arith
 kind-fits (otherKind k) f =
     let g : fit (2 ∷ []) ((3 + k) ∷ []) ≡ true = rw (ne-eqb (3 + k) 1 (omega arith), ne-eqb (3 + k) 2 (omega arith)) at f in
     fit-first 2 (3 + k) [] [] g

@@ -7,7 +7,8 @@ use lib.IntN.{pos}
 use lib.ListN.{replicate}
 use Rattle.words.specs.Tests.{_=?_}
 use Rattle.words.specs.Lists.{every}
-use Rattle.meaning.specs.PackedMessages.{Packed, gate, notification, nullification, writeMessage}
+use Rattle.meaning.specs.Messages.{notification, nullification}
+use Rattle.meaning.specs.PackedMessages.{Packed, gate, message, writeMessage}
 use Rattle.meaning.proofs.Opened as Opened
 
 abbrev size : Packed → ℕ
@@ -15,7 +16,7 @@ size m = writeMessage m (replicate 224 0) .length
 
 abbrev ofEntries : ℕ → Packed
 ofEntries n =
-    notification (record {
+    message (notification (record {
       authorisation = 0;
       agent = 7;
       key = 500;
@@ -23,12 +24,12 @@ ofEntries n =
       first = 100;
       last = 100;
       entries = replicate n (record { period = 1; volume = pos 5000 });
-    })
+    }))
 
 abbrev sizes : List Bool
 sizes =
     (size gate =? 1)
-    ∷ (size (nullification (record { account = 0; other = 1; first = 100 })) =? 4)
+    ∷ (size (message (nullification (record { account = 0; other = 1; first = 100 }))) =? 4)
     ∷ (size (ofEntries 0) =? 12)
     ∷ (size (ofEntries 1) =? 16)
     ∷ (size (ofEntries 48) =? 216)

@@ -14,6 +14,7 @@ use Rattle.meaning.specs.Books.{Setup, Book, openedBook}
 use Rattle.meaning.specs.Calls.{Call, gate}
 use Rattle.meaning.specs.History.{after}
 use Rattle.meaning.specs.Bars.{seenBar}
+use Rattle.meaning.specs.Messages.{nullification}
 use Rattle.meaning.specs.PackedMessages.{writeMessage}
 use Rattle.meaning.specs.PackedMessages as Packed
 use Rattle.meaning.proofs.Opened as Opened
@@ -147,7 +148,7 @@ P12 =
 
 abbrev P13 : Bool
 P13 =
-    alike _=?_ (writeMessage (Packed.nullification (record { account = 0; other = 1; first = 100 })) (replicate 4 0) .out) (0x80 ∷ 0x04 ∷ 0x01 ∷ 0x90 ∷ [])
+    alike _=?_ (writeMessage (Packed.message (nullification (record { account = 0; other = 1; first = 100 }))) (replicate 4 0) .out) (0x80 ∷ 0x04 ∷ 0x01 ∷ 0x90 ∷ [])
 
 pub theTable : every (λ p. p) (P1 ∷ P2 ∷ P3 ∷ P4 ∷ P5 ∷ P6 ∷ P7 ∷ P8 ∷ P9 ∷ P10 ∷ P11 ∷ P12 ∷ P13 ∷ []) ≡ true
 unfolding Opened.opened

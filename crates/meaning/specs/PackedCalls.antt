@@ -5,29 +5,27 @@ use lib.ListN.{length, drop}
 use Rattle.words.specs.Tests.{if_then_else_, _<?_, _=?_}
 use Rattle.words.specs.Rules.{Rule, _when_else_, done, answer}
 use Rattle.meaning.specs.Ledgers.{contracts}
-use Rattle.meaning.specs.Messages as Messages
+use Rattle.meaning.specs.Messages.{notification, nullification}
 use Rattle.meaning.specs.Books.{Book}
 use Rattle.meaning.specs.Soundness.{sound}
 use Rattle.meaning.specs.Refusals.{asked}
 use Rattle.meaning.specs.Notifications.{notified}
 use Rattle.meaning.specs.Calls as Calls
-use Rattle.meaning.specs.Calls.{Call, message, rulesFor}
+use Rattle.meaning.specs.Calls.{Call, rulesFor}
 use Rattle.meaning.specs.History.{after}
-use Rattle.meaning.specs.PackedMessages.{Packed, gate, notification, nullification, otherKind, readingRules, readMessage}
+use Rattle.meaning.specs.PackedMessages.{Packed, gate, message, otherKind, readingRules, readMessage}
 
 -- the call that a message makes; one of another kind makes none
 unfoldable pub callsOf : Packed → List (Call contracts)
 callsOf gate = Calls.gate ∷ []
-callsOf (notification n) = message (Messages.notification n) ∷ []
-callsOf (nullification x) = message (Messages.nullification x) ∷ []
+callsOf (message m) = Calls.message m ∷ []
 callsOf (otherKind k) = []
 
 -- the refusals that a book has for it, in their order: its kind's own; for a kind that no call has 20, "message kind 3", and 23 where the kind does not
 -- fit its field of 2 bits
 unfoldable pub messageRules : Book contracts → Packed → List Rule
 messageRules b gate = rulesFor b Calls.gate
-messageRules b (notification n) = rulesFor b (message (Messages.notification n))
-messageRules b (nullification x) = rulesFor b (message (Messages.nullification x))
+messageRules b (message m) = rulesFor b (Calls.message m)
 messageRules b (otherKind k) =
     asked b (
     20 when k =? 0 else
@@ -37,14 +35,14 @@ messageRules b (otherKind k) =
 -- "The answer gives kind and slot": those of a notification; zero for every other message, and with a refusal
 unfoldable pub kindGiven : Book contracts → Packed → ℕ
 kindGiven b gate = 0
-kindGiven b (notification n) = notified b n .kind
-kindGiven b (nullification x) = 0
+kindGiven b (message (notification n)) = notified b n .kind
+kindGiven b (message (nullification x)) = 0
 kindGiven b (otherKind k) = 0
 
 unfoldable pub slotGiven : Book contracts → Packed → ℕ
 slotGiven b gate = 0
-slotGiven b (notification n) = notified b n .slot
-slotGiven b (nullification x) = 0
+slotGiven b (message (notification n)) = notified b n .slot
+slotGiven b (message (nullification x)) = 0
 slotGiven b (otherKind k) = 0
 
 -- ---- one packed message

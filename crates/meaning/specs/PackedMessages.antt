@@ -8,13 +8,12 @@ use Rattle.words.specs.Lists.{every}
 use Rattle.words.specs.Rules.{Rule, _when_else_, done, answer}
 use Rattle.words.specs.Fields.{fieldAt, total, times, readAll, writeAll, fit, bytesFor, padding, fitsSigned, signedOf, bitsOf}
 use Rattle.meaning.specs.Ledgers.{contracts, identifierOf, originatorOf, referenceOf}
-use Rattle.meaning.specs.Messages.{Entry, Notification, Nullification}
+use Rattle.meaning.specs.Messages.{Entry, Notification, Message, notification, nullification}
 
 -- A message as it is packed. A reader gives the first three; a writer may be handed another kind: `otherKind k` is of kind 3 + k.
 pub data Packed : Type 0 where
   gate : Packed
-  notification : Notification contracts → Packed
-  nullification : Nullification → Packed
+  message : Message contracts → Packed
   otherKind : ℕ → Packed
 
 -- ---- the layouts
@@ -49,10 +48,10 @@ entriesFrom (p ∷ (v ∷ vs)) = record { period = p; volume = signedOf 27 v } �
 
 unfoldable pub valuesOf : Packed → List ℕ
 valuesOf gate = 0 ∷ []
-valuesOf (notification n) =
+valuesOf (message (notification n)) =
     1 ∷ n .authorisation ∷ n .agent ∷ n .key ∷ originatorOf (n .identifier) ∷ referenceOf (n .identifier) ∷ n .first ∷ n .last
     ∷ length (n .entries) ∷ entryValues (n .entries)
-valuesOf (nullification x) = 2 ∷ x .account ∷ x .other ∷ x .first ∷ []
+valuesOf (message (nullification x)) = 2 ∷ x .account ∷ x .other ∷ x .first ∷ []
 valuesOf (otherKind k) = (3 + k) ∷ []
 
 unfoldable pub notificationFrom : List ℕ → Notification contracts
@@ -64,8 +63,8 @@ notificationFrom vs =
 unfoldable pub messageFrom : List ℕ → Packed
 messageFrom vs =
     if getD vs 0 0 =? 0 then gate
-    else if getD vs 0 0 =? 1 then notification (notificationFrom vs)
-    else if getD vs 0 0 =? 2 then nullification (record { account = getD vs 1 0; other = getD vs 2 0; first = getD vs 3 0 })
+    else if getD vs 0 0 =? 1 then message (notification (notificationFrom vs))
+    else if getD vs 0 0 =? 2 then message (nullification (record { account = getD vs 1 0; other = getD vs 2 0; first = getD vs 3 0 }))
     else otherKind (getD vs 0 0 - 3)
 
 -- ---- reading
@@ -108,14 +107,14 @@ readMessage bytes =
 
 abbrev pub kindOf : Packed → ℕ
 kindOf gate = 0
-kindOf (notification n) = 1
-kindOf (nullification x) = 2
+kindOf (message (notification n)) = 1
+kindOf (message (nullification x)) = 2
 kindOf (otherKind k) = 3 + k
 
 abbrev pub entriesOf : Packed → List (Entry contracts)
 entriesOf gate = []
-entriesOf (notification n) = n .entries
-entriesOf (nullification x) = []
+entriesOf (message (notification n)) = n .entries
+entriesOf (message (nullification x)) = []
 entriesOf (otherKind k) = []
 
 unfoldable pub layoutOf : Packed → List ℕ

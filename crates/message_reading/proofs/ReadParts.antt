@@ -17,7 +17,8 @@ use Rattle.laws.proofs.Cases.{by-eq, by-lt}
 use Rattle.laws.proofs.Fields.{field-lt}
 use Rattle.meaning.specs.Ledgers.{contracts}
 use Rattle.meaning.specs.Messages as Meaning
-use Rattle.meaning.specs.PackedMessages.{notification, nullification, kindIn, countIn, layoutFor, layoutIn, readingRules, notificationLayout, nullificationLayout, entryLayout, entriesFrom, notificationFrom, messageFrom}
+use Rattle.meaning.specs.Messages.{notification, nullification}
+use Rattle.meaning.specs.PackedMessages.{message, kindIn, countIn, layoutFor, layoutIn, readingRules, notificationLayout, nullificationLayout, entryLayout, entriesFrom, notificationFrom, messageFrom}
 use Rattle.meaning.proofs.EntryValues.{entries-count, entry-at}
 use Rattle.meaning.proofs.MessageValues.{count-1, layout-1, layout-2, layout-other, originator-again, reference-again}
 use Rattle.messages.specs.Structs.{noEntry, noEntryMeant, entryFor, noNullification, notificationFor, messageFor}
@@ -146,7 +147,7 @@ module _ (s : List ℕ) where
       let vs : List ℕ = readAll s 0 (notificationLayout ++ times (countIn s) entryLayout) in
       let whole : Notification → Message = λ x. record { kind = 1; notification = x; nullification = noNullification } in
       let read : messageIn s ≡ whole (notificationIn s) = rw e in
-      let meant : messageFrom vs ≡ notification (notificationFrom vs) = rw e in
+      let meant : messageFrom vs ≡ message (notification (notificationFrom vs)) = rw e in
       read ∙ ap whole (notification-parts s (countIn s) (sym (count-1 s e))) ∙ ap messageFor (sym meant)
 
   as-nullification : kindIn s ≡ 2 → messageIn s ≡ messageFor (messageFrom (readAll s 0 nullificationLayout))

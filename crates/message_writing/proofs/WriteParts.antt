@@ -27,8 +27,9 @@ use Rattle.laws.proofs.Below.{every-at}
 use Rattle.laws.proofs.Builds.{every-build, build-more}
 use Rattle.meaning.specs.Ledgers.{contracts, originatorOf, referenceOf}
 use Rattle.meaning.specs.Messages as Meaning
+use Rattle.meaning.specs.Messages.{notification, nullification}
 use Rattle.meaning.specs.PackedMessages as Packed
-use Rattle.meaning.specs.PackedMessages.{gate, notification, nullification, otherKind, notificationLayout, nullificationLayout, entryLayout, layoutFor, entryValues, valuesOf, kindOf, layoutOf, valueWrong, writingRules, packedInto}
+use Rattle.meaning.specs.PackedMessages.{gate, message, otherKind, notificationLayout, nullificationLayout, entryLayout, layoutFor, entryValues, valuesOf, kindOf, layoutOf, valueWrong, writingRules, packedInto}
 use Rattle.meaning.proofs.EntryValues.{signedIn28, values-append, values-length}
 use Rattle.fields.specs.Narrow.{volumeBits}
 use Rattle.messages.specs.Structs.{noEntry, entryOf, entriesOf, notificationOf, nullificationOf, messageOf}
@@ -96,11 +97,11 @@ module _ (m : Message) where
   unfolding messageOf
   message-0 e = rw e
 
-  message-1 : m .kind ≡ 1 → messageOf m ≡ notification (notificationOf (m .notification))
+  message-1 : m .kind ≡ 1 → messageOf m ≡ message (notification (notificationOf (m .notification)))
   unfolding messageOf
   message-1 e = rw e
 
-  message-2 : m .kind ≡ 2 → messageOf m ≡ nullification (nullificationOf (m .nullification))
+  message-2 : m .kind ≡ 2 → messageOf m ≡ message (nullification (nullificationOf (m .nullification)))
   unfolding messageOf
   message-2 e = rw e
 
@@ -179,7 +180,7 @@ not-two true true = refl
 not-many : (a b : Bool) → true ≡ not (a && b && false)
 not-many a b = rw (and-false (a && b))
 
-pub values-1 : (n : Notification) → n .reference < 65536 → valuesOf (notification (notificationOf n)) ≡ headOf n ++ entryValues (entriesOf (n .count) (n .entries))
+pub values-1 : (n : Notification) → n .reference < 65536 → valuesOf (message (notification (notificationOf n))) ≡ headOf n ++ entryValues (entriesOf (n .count) (n .entries))
 unfolding valuesOf notificationOf originatorOf referenceOf entriesOf
 values-1 n r =
     rw (
@@ -188,11 +189,11 @@ values-1 n r =
       length-build (n .count) (λ (k : ℕ). entryOf (getD (n .entries) k noEntry)),
     )
 
-pub layout-1 : (n : Notification) → layoutOf (notification (notificationOf n)) ≡ notificationLayout ++ times (n .count) entryLayout
+pub layout-1 : (n : Notification) → layoutOf (message (notification (notificationOf n))) ≡ notificationLayout ++ times (n .count) entryLayout
 unfolding layoutOf layoutFor notificationOf entriesOf
 layout-1 n = rw (length-build (n .count) (λ (k : ℕ). entryOf (getD (n .entries) k noEntry)))
 
-entries-1 : (n : Notification) → Packed.entriesOf (notification (notificationOf n)) ≡ entriesOf (n .count) (n .entries)
+entries-1 : (n : Notification) → Packed.entriesOf (message (notification (notificationOf n))) ≡ entriesOf (n .count) (n .entries)
 unfolding notificationOf
 entries-1 n = refl
 
@@ -208,7 +209,7 @@ module _ (m : Message) (h : Held m) where
   abbrev n : Notification
   n = m .notification
 
-  fit-1 : n .count ≤ 50 → fit (layoutOf (notification (notificationOf n))) (valuesOf (notification (notificationOf n)))
+  fit-1 : n .count ≤ 50 → fit (layoutOf (message (notification (notificationOf n)))) (valuesOf (message (notification (notificationOf n))))
       ≡ (n .authorisation <? 64 && (n .originator <? 64 && fit (times (n .count) entryLayout) (entryValues (entriesOf (n .count) (n .entries)))))
   fit-1 l =
       ap₂ fit (layout-1 n) (values-1 n (h .reference))
@@ -221,7 +222,7 @@ module _ (m : Message) (h : Held m) where
         lt-ltb (n .count) 64 (omega arith),
       )
 
-  wrong-1 : valueWrong (notification (notificationOf n)) ≡ not (notificationFits n)
+  wrong-1 : valueWrong (message (notification (notificationOf n))) ≡ not (notificationFits n)
   unfolding valueWrong notificationFits entriesFit
   wrong-1 =
       let a = n .authorisation <? 64 in
@@ -234,7 +235,7 @@ module _ (m : Message) (h : Held m) where
       (not-all a b (fit (times (n .count) entryLayout) (entryValues es)) (every signedIn28 es)
       ∙ ap (λ (t : Bool). not (a && b && t)) (entries-fitting (n .count) (n .entries))))
 
-  wrong-2 : valueWrong (nullification (nullificationOf (m .nullification))) ≡ not (nullificationFits (m .nullification))
+  wrong-2 : valueWrong (message (nullification (nullificationOf (m .nullification)))) ≡ not (nullificationFits (m .nullification))
   unfolding valueWrong nullificationFits layoutOf layoutFor valuesOf every
   wrong-2 =
       rw (lt-ltb (m .nullification .first) 65536 (h .from)) (not-two (m .nullification .account <? 64) (m .nullification .other <? 64))
@@ -333,7 +334,7 @@ module _ (m : Message) (h : Held m) (f : messageFits m ≡ true) (out : List ℕ
   unfolding fieldsWritten layoutOf layoutFor valuesOf
   fields-0 e = rw e
 
-  fields-2 : m .kind ≡ 2 → Fields (nullification (nullificationOf (m .nullification)))
+  fields-2 : m .kind ≡ 2 → Fields (message (nullification (nullificationOf (m .nullification))))
   unfolding fieldsWritten nullificationWritten layoutOf layoutFor valuesOf
   fields-2 e = rw e
 

@@ -11,7 +11,8 @@ use Rattle.laws.proofs.Builds.{length-build, getD-build, getD-build-past, is-bu
 use Rattle.laws.proofs.Cases.{by-lt, by-eq}
 use Rattle.meaning.specs.Ledgers.{contracts, identifierOf, originatorOf, referenceOf}
 use Rattle.meaning.specs.Messages as Meaning
-use Rattle.meaning.specs.PackedMessages.{Packed, gate, notification, nullification, otherKind, entriesOf}
+use Rattle.meaning.specs.Messages.{notification, nullification}
+use Rattle.meaning.specs.PackedMessages.{Packed, gate, message, otherKind, entriesOf}
 use Rattle.meaning.proofs.MessageValues as Values
 use Rattle.messages.specs.Structs as Structs
 use Rattle.messages.specs.Structs.{noEntry, noEntryMeant, entryOf, entryFor, notificationOf, notificationFor, messageOf, messageFor, settledEntries, settledNotification, settled}
@@ -72,8 +73,8 @@ notification-again n h = rw (identifier-again (n .identifier), entries-again (n 
 pub message-again : (m : Packed) → length (entriesOf m) ≤ 50 → messageOf (messageFor m) ≡ m
 unfolding messageOf
 message-again gate h = refl
-message-again (notification n) h = ap notification (notification-again n h)
-message-again (nullification x) h = refl
+message-again (message (notification n)) h = ap (λ x. message (notification x)) (notification-again n h)
+message-again (message (nullification x)) h = refl
 message-again (otherKind k) h =
     let e : 3 + k - 3 ≡ k = omega arith in
     rw (ne-eqb (3 + k) 0 (λ q. omega arith), ne-eqb (3 + k) 1 (λ q. omega arith), ne-eqb (3 + k) 2 (λ q. omega arith), e)

@@ -8,7 +8,8 @@ use Rattle.words.specs.Lists.{build}
 use Rattle.words.specs.Fields.{fieldAt, readAll, signedOf}
 use Rattle.meaning.specs.Ledgers.{contracts, identifierOf, originatorOf, referenceOf}
 use Rattle.meaning.specs.Messages as Meaning
-use Rattle.meaning.specs.PackedMessages.{Packed, gate, notification, nullification, otherKind}
+use Rattle.meaning.specs.Messages.{notification, nullification}
+use Rattle.meaning.specs.PackedMessages.{Packed, gate, message, otherKind}
 use Rattle.messages.specs.declared.Entry.{Entry}
 use Rattle.messages.specs.declared.Notification.{Notification}
 use Rattle.messages.specs.declared.Nullification.{Nullification}
@@ -38,8 +39,8 @@ nullificationOf x = record { account = x .account; other = x .other; first = x .
 unfoldable pub messageOf : Message → Packed
 messageOf m =
     if m .kind =? 0 then gate
-    else if m .kind =? 1 then notification (notificationOf (m .notification))
-    else if m .kind =? 2 then nullification (nullificationOf (m .nullification))
+    else if m .kind =? 1 then message (notification (notificationOf (m .notification)))
+    else if m .kind =? 2 then message (nullification (nullificationOf (m .nullification)))
     else otherKind (m .kind - 3)
 
 -- ---- the struct for what meaning has
@@ -73,8 +74,8 @@ noMessage = record { kind = 0; notification = noNotification; nullification = no
 -- "fields its kind lacks, are no part of a message; they read as zero"
 abbrev pub messageFor : Packed → Message
 messageFor gate = noMessage
-messageFor (notification n) = record { kind = 1; notification = notificationFor n; nullification = noNullification }
-messageFor (nullification x) = record { kind = 2; notification = noNotification; nullification = nullificationFor x }
+messageFor (message (notification n)) = record { kind = 1; notification = notificationFor n; nullification = noNullification }
+messageFor (message (nullification x)) = record { kind = 2; notification = noNotification; nullification = nullificationFor x }
 messageFor (otherKind k) = record { kind = 3 + k; notification = noNotification; nullification = noNullification }
 
 -- ---- a message as it reads back: places past the count, and what its kind lacks, are zero
