@@ -51,3 +51,6 @@ pub mod SetupValues
 pub mod PackedSetupRules
 pub mod EitherWaySetups
 pub mod Sizes
+pub mod Decimals
+pub mod ReadBack
+pub mod SheetExamples

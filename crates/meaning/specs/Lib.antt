@@ -17,3 +17,7 @@ pub mod Rows
 pub mod PackedMessages
 pub mod PackedCalls
 pub mod PackedSetups
+pub mod Ascii
+pub mod Decimals
+pub mod SheetLines
+pub mod Sheet

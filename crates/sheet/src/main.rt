@@ -1,10 +1,10 @@
 // The sheet program (document 01, "The sheet program"): reads a setup and then messages from standard input, however many, and prints the sheet.
-// What is printed is decided by the proved parts in crate sheets; here is reading, lending and printing.
+// What is printed is decided by the proved parts in crate sheet_parts; here is reading, lending and printing.
 use book::Book;
-use sheets::beginning;
-use sheets::input;
-use sheets::totals;
-use sheets::turns;
+use sheet_parts::beginning;
+use sheet_parts::input;
+use sheet_parts::totals;
+use sheet_parts::turns;
 ghost use mathlib.Core.Bool.{true};
 ghost use mathlib.Core.Path.{_≡_};
 ghost use Prim.Native.Nat.{_≤_};
@@ -150,7 +150,7 @@ fn print_rest(
     let end = print_messages(start, bytes, held, side1, side2, out);
     let after = end.book;
     print_totals(after, held, side1, side2, out);
-    let written = lines::put_end_line(out, 0, end.seen);
+    let written = sheet_lines::put_end_line(out, 0, end.seen);
     print(out, written);
 }
 

@@ -5,8 +5,8 @@ use native.Mathlib.Omega.{arith}
 use denote.Ref.{now}
 use lib.ListN.{length}
 use lib.Seq.{length-take-le, length-sets}
-use Rattle.sheets.specs.Parts.{keptOf}
-use Rattle.sheets.proofs.KeptLaws.{kept-fits}
+use Rattle.sheet_parts.specs.Parts.{keptOf}
+use Rattle.sheet_parts.proofs.KeptLaws.{kept-fits}
 use Rattle.sheet.proofs.print_sheet.Statement.{statement}
 use Rattle.sheet.proofs.print_sheet.Tie as tie
 

@@ -4,8 +4,8 @@ use mathlib.Core.Path.{sym, ap, _∙_}
 use native.Mathlib.Omega.{arith}
 use lib.ListN.{length}
 use lib.Seq.{length-take-le, length-sets}
-use Rattle.sheets.specs.Parts.{keptOf}
-use Rattle.sheets.proofs.KeptLaws.{kept-fits}
+use Rattle.sheet_parts.specs.Parts.{keptOf}
+use Rattle.sheet_parts.proofs.KeptLaws.{kept-fits}
 use Rattle.sheet.proofs.take_turn.Statement.{statement}
 use Rattle.sheet.proofs.take_turn.Tie as tie
 

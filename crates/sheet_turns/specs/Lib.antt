@@ -1,0 +1,2 @@
+-- How the sheet program goes through its input.
+pub mod Turns
