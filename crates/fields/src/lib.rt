@@ -2,7 +2,6 @@
 // fields. Past the end of the bytes a bit is 0, and writing one changes nothing, so no caller owes an index.
 ghost use mathlib.Core.Path.{_≡_};
 ghost use Prim.Native.Nat.{_+_, _*_, _%_, _≤_, _<_, _^_, min};
-ghost use lib.ListN.{length};
 ghost use lib.Signed.{mag};
 ghost use Rattle.words.specs.Fields.{weight, bitAt, fieldAt, withBit, setBit, setField, fitsSigned, signedOf, bitsOf};
 ghost use Rattle.fields.specs.Narrow.{narrow, fewest, readInto, writeFrom, volumeBits};

@@ -5,7 +5,6 @@ use messages::Notification;
 use messages::Nullification;
 use messages::layouts;
 ghost use mathlib.Core.Path.{_≡_};
-ghost use Prim.Native.Nat.{_≤_};
 ghost use Rattle.words.specs.Rules.{answer};
 ghost use Rattle.meaning.specs.PackedMessages.{writingRules, writeMessage};
 ghost use Rattle.messages.specs.Structs.{messageOf};

@@ -6,7 +6,6 @@ use setups::rules;
 ghost use mathlib.Core.Bool.{not};
 ghost use mathlib.Core.Path.{_≡_};
 ghost use lib.Dec.{eqb};
-ghost use Prim.Native.Nat.{_≤_};
 ghost use Rattle.words.specs.Rules.{answer};
 ghost use Rattle.words.specs.Fields.{total, padding, fieldAt};
 ghost use Rattle.meaning.specs.PackedSetups.{setupLayoutFor, setupReadingRules, readSetup};

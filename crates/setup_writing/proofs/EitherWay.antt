@@ -12,7 +12,6 @@ use Rattle.laws.proofs.Bits.{Bytes}
 use Rattle.laws.proofs.Builds.{length-build, getD-build, getD-build-past, build-same}
 use Rattle.laws.proofs.Cases.{by-lt}
 use Rattle.meaning.specs.Authorisations.{noRow}
-use Rattle.meaning.specs.Books as Books
 use Rattle.meaning.specs.Books.{lentWrong}
 use Rattle.meaning.specs.PackedSetups.{setupIn, readSetup, writeSetup}
 use Rattle.meaning.proofs.EitherWaySetups.{setup-written-reads, setup-read-writes}

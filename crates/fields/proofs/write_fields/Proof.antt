@@ -53,9 +53,13 @@ loop-less c = search needs
 
 loop-again : tie.Need-loop-again Inv-loop μ-loop
 loop-again c =
-    let a = c .before .before .before .before .before .before .before .before .before .before .before .before .before .args in
-    let l = c .before .before .before .before .before .before .before .before .loop in
-    let narrowed = c .before .before .before .before .before .narrowed in
+    let wrote : tie.After-write-bits Inv-loop μ-loop = search in
+    let width : tie.After-narrowed Inv-loop μ-loop = search in
+    let turn : tie.At-loop Inv-loop μ-loop = search in
+    let start : tie.Start Inv-loop μ-loop = search in
+    let a = start .args in
+    let l = turn .loop in
+    let narrowed = width .narrowed in
     let ws = now (a .widths) in
     let us = map narrow ws in
     let inside : l .i < length us = omega (arith, length-map ws narrow) in
@@ -66,7 +70,7 @@ loop-again c =
       l .inv .1,
       omega (arith, total-more us (l .i) inside, w),
       omega (arith, narrowed .ensures),
-      c .before .before .write-bits .ensures
+      wrote .write-bits .ensures
           ∙ ap (λ (s : List ℕ). setField s (l .p) (narrowed .result) value) (l .inv .4)
           ∙ ap₂ (λ (p width : ℕ). setField before p width value) (l .inv .2) w
           ∙ sym (write-fields-more us (l .i) inside (now (a .dst)) (a .at) (now (a .values)) (omega arith)),
@@ -74,14 +78,16 @@ loop-again c =
 
 same-length : tie.Need-same-length Inv-loop μ-loop
 same-length c =
-    let a = c .before .before .before .before .before .before .args in
+    let start : tie.Start Inv-loop μ-loop = search in
+    let a = start .args in
     let l = c .before .loop in
     ap length (l .inv .4) ∙ write-length (now (a .dst)) (a .at) (take (l .i) (map narrow (now (a .widths)))) (take (l .i) (now (a .values)))
 
 returns : tie.Need-returns Inv-loop μ-loop
 unfolding writeFrom
 returns c =
-    let a = c .before .before .before .before .before .before .args in
+    let start : tie.Start Inv-loop μ-loop = search in
+    let a = start .args in
     let l = c .before .loop in
     let e : l .i ≡ fewest (length (now (a .widths))) (length (now (a .values))) = omega (arith, l .inv .1) in
     l .inv .4 ∙ rw e

@@ -15,28 +15,38 @@ row-of-requires : tie.Need-row-of-requires
 row-of-requires c κs = search needs
 
 is-replacement-requires : tie.Need-is-replacement-requires
-is-replacement-requires c κs = (c .before .before .before .pre, c .row-of .ensures)
+is-replacement-requires c κs =
+    let start : tie.Start = search in
+    (start .pre, c .row-of .ensures)
 
 returns : tie.Need-returns
 returns c =
-    let a = c .before .before .before .before .before .args in
+    let start : tie.Start = search in
+    let a = start .args in
     let m = bookOf (a .b) (now (a .held)) (now (a .side1)) (now (a .side2)) in
     sym (kind-replacement m (notificationOf (a .n)) (sym (c .before .is-replacement .ensures) ∙ c .if1 .taken))
 
 is-overlapped-requires : tie.Need-is-overlapped-requires
-is-overlapped-requires c κs = (c .before .before .before .before .before .pre, c .before .before .row-of .ensures)
+is-overlapped-requires c κs =
+    let own : tie.After-row-of = search in
+    let start : tie.Start = search in
+    (start .pre, own .row-of .ensures)
 
 returns-2 : tie.Need-returns-2
 returns-2 c =
-    let a = c .before .before .before .before .before .before .before .args in
+    let unreplaced : tie.Else1 = search in
+    let start : tie.Start = search in
+    let a = start .args in
     let m = bookOf (a .b) (now (a .held)) (now (a .side1)) (now (a .side2)) in
-    sym (kind-additional m (notificationOf (a .n)) (sym (c .before .before .before .is-replacement .ensures) ∙ c .before .before .if1 .left) (sym (c .before .is-overlapped .ensures) ∙ c .if2 .taken))
+    sym (kind-additional m (notificationOf (a .n)) (sym (unreplaced .before .is-replacement .ensures) ∙ unreplaced .if1 .left) (sym (c .before .is-overlapped .ensures) ∙ c .if2 .taken))
 
 returns-3 : tie.Need-returns-3
 returns-3 c =
-    let a = c .before .before .before .before .before .before .before .args in
+    let unreplaced : tie.Else1 = search in
+    let start : tie.Start = search in
+    let a = start .args in
     let m = bookOf (a .b) (now (a .held)) (now (a .side1)) (now (a .side2)) in
-    sym (kind-initial m (notificationOf (a .n)) (sym (c .before .before .before .is-replacement .ensures) ∙ c .before .before .if1 .left) (sym (c .before .is-overlapped .ensures) ∙ c .if2 .left))
+    sym (kind-initial m (notificationOf (a .n)) (sym (unreplaced .before .is-replacement .ensures) ∙ unreplaced .if1 .left) (sym (c .before .is-overlapped .ensures) ∙ c .if2 .left))
 
 pub kind-in-spec : {M : Type 1} → statement M
 kind-in-spec =

@@ -36,7 +36,9 @@ at : (c : tie.After-v2) (i : ℕ)
 at c i = ap (λ (l : List ℕ). getD l i 0) (read c)
 
 cast-count : tie.Need-cast-count
-cast-count c = omega (arith, at c 8, field-lt (now (c .before .before .before .before .before .args .bytes)) 86 6)
+cast-count c =
+    let start : tie.Start = search in
+    omega (arith, at c 8, field-lt (now (start .args .bytes)) 86 6)
 
 entries-in-requires : tie.Need-entries-in-requires
 entries-in-requires c κs = search needs
@@ -45,43 +47,57 @@ array-read-t14 : tie.Need-array-read-t14
 array-read-t14 c = search needs
 
 cast-t17 : tie.Need-cast-t17
-cast-t17 c = omega (arith, at (c .before) 1, field-lt (now (c .before .before .before .before .before .before .args .bytes)) 2 6)
+cast-t17 c =
+    let start : tie.Start = search in
+    omega (arith, at (c .before) 1, field-lt (now (start .args .bytes)) 2 6)
 
 array-read-t20 : tie.Need-array-read-t20
 array-read-t20 c = search needs
 
 cast-t21 : tie.Need-cast-t21
-cast-t21 c = omega (arith, at (c .before) 2, field-lt (now (c .before .before .before .before .before .before .args .bytes)) 8 8)
+cast-t21 c =
+    let start : tie.Start = search in
+    omega (arith, at (c .before) 2, field-lt (now (start .args .bytes)) 8 8)
 
 array-read-t24 : tie.Need-array-read-t24
 array-read-t24 c = search needs
 
 cast-t25 : tie.Need-cast-t25
-cast-t25 c = omega (arith, at (c .before) 3, field-lt (now (c .before .before .before .before .before .before .args .bytes)) 16 16)
+cast-t25 c =
+    let start : tie.Start = search in
+    omega (arith, at (c .before) 3, field-lt (now (start .args .bytes)) 16 16)
 
 array-read-t28 : tie.Need-array-read-t28
 array-read-t28 c = search needs
 
 cast-t29 : tie.Need-cast-t29
-cast-t29 c = omega (arith, at (c .before) 4, field-lt (now (c .before .before .before .before .before .before .args .bytes)) 32 6)
+cast-t29 c =
+    let start : tie.Start = search in
+    omega (arith, at (c .before) 4, field-lt (now (start .args .bytes)) 32 6)
 
 array-read-t32 : tie.Need-array-read-t32
 array-read-t32 c = search needs
 
 cast-t33 : tie.Need-cast-t33
-cast-t33 c = omega (arith, at (c .before) 5, field-lt (now (c .before .before .before .before .before .before .args .bytes)) 38 16)
+cast-t33 c =
+    let start : tie.Start = search in
+    omega (arith, at (c .before) 5, field-lt (now (start .args .bytes)) 38 16)
 
 array-read-t36 : tie.Need-array-read-t36
 array-read-t36 c = search needs
 
 cast-t37 : tie.Need-cast-t37
-cast-t37 c = omega (arith, at (c .before) 6, field-lt (now (c .before .before .before .before .before .before .args .bytes)) 54 16)
+cast-t37 c =
+    let start : tie.Start = search in
+    omega (arith, at (c .before) 6, field-lt (now (start .args .bytes)) 54 16)
 
 array-read-t40 : tie.Need-array-read-t40
 array-read-t40 c = search needs
 
 cast-t41 : tie.Need-cast-t41
-cast-t41 c = omega (arith, at (c .before) 7, field-lt (now (c .before .before .before .before .before .before .args .bytes)) 70 16)
+cast-t41 c =
+    let start : tie.Start = search in
+    omega (arith, at (c .before) 7, field-lt (now (start .args .bytes)) 70 16)
 
 returns : tie.Need-returns
 unfolding notificationIn

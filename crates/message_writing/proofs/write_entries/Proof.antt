@@ -25,7 +25,9 @@ at-most-fifty-requires : tie.Need-at-most-fifty-requires Inv-loop μ-loop
 at-most-fifty-requires c κs = tt
 
 loop-holds : tie.Need-loop-holds Inv-loop μ-loop
-loop-holds c = (omega arith, c .at-most-fifty .ensures, sym (into-none (c .before .before .args .t1) (now (c .before .before .args .out))))
+loop-holds c =
+    let start : tie.Start Inv-loop μ-loop = search in
+    (omega arith, c .at-most-fifty .ensures, sym (into-none (start .args .t1) (now (start .args .out))))
 
 cast-e : tie.Need-cast-e Inv-loop μ-loop
 cast-e c = search needs
@@ -69,26 +71,33 @@ loop-less c = search needs
 loop-again : tie.Need-loop-again Inv-loop μ-loop
 unfolding writeFrom
 loop-again c =
-    let a = c .before .before .before .before .before .before .before .before .before .before .before .before .before .before .args in
-    let l = c .before .before .before .before .before .before .before .before .before .before .before .loop in
+    let wrote : tie.After-write-fields Inv-loop μ-loop = search in
+    let volume : tie.After-bits-of-volume Inv-loop μ-loop = search in
+    let entry : tie.After-struct-told Inv-loop μ-loop = search in
+    let turn : tie.At-loop Inv-loop μ-loop = search in
+    let start : tie.Start Inv-loop μ-loop = search in
+    let a = start .args in
+    let l = turn .loop in
     let z : ℤ = getD (a .t1 .entries) (l .k) noEntry .volume in
-    let call = c .before .before .before .before .before .before .bits-of-volume in
-    let told = c .before .before .before .before .before .before .before .struct-told in
+    let call = volume .bits-of-volume in
+    let told = entry .struct-told in
     let bits : call .result ≡ volumeBits z = call .ensures ∙ ap volumeBits (toZ-ofZ {w = w32} (record { sfits = told .given .1 .0 .1 })) in (
       omega arith,
       l .inv .1,
-      c .before .before .write-fields .ensures ∙ rw (bits, l .inv .2) (sym (into-more (a .t1) (now (a .out)) (l .k))),
+      wrote .write-fields .ensures ∙ rw (bits, l .inv .2) (sym (into-more (a .t1) (now (a .out)) (l .k))),
     )
 
 same-length : tie.Need-same-length Inv-loop μ-loop
 same-length c =
-    let a = c .before .before .before .before .args in
+    let start : tie.Start Inv-loop μ-loop = search in
+    let a = start .args in
     ap length (c .before .loop .inv .2) ∙ into-length (a .t1) (now (a .out)) (c .before .loop .k)
 
 returns : tie.Need-returns Inv-loop μ-loop
 unfolding entriesWritten
 returns c =
-    let a = c .before .before .before .before .args in
+    let start : tie.Start Inv-loop μ-loop = search in
+    let a = start .args in
     let e : c .before .loop .k ≡ min (a .t1 .count) 50 = omega arith in
     c .before .loop .inv .2 ∙ ap (entriesInto (a .t1) (now (a .out))) e
 

@@ -46,22 +46,31 @@ written c =
 
 same-length : tie.Need-same-length
 same-length c =
-    let a = c .before .before .before .before .before .before .before .before .before .args in
-    c .before .before .write-field2 .kept .0 ∙ ap length (written (c .before .before .before .before .before .before)) ∙ fields-length (a .m) (now (a .out))
+    let padded : tie.After-write-field2 = search in
+    let packed : tie.At-match-came = search in
+    let start : tie.Start = search in
+    let a = start .args in
+    padded .write-field2 .kept .0 ∙ ap length (written packed) ∙ fields-length (a .m) (now (a .out))
 
 returns : tie.Need-returns
 unfolding messageInto
 returns c =
-    let m = c .before .before .before .before .before .before .before .before .before .args .m in
-    let out = now (c .before .before .before .before .before .before .before .before .before .args .out) in
+    let padded : tie.After-write-field2 = search in
+    let room : tie.After-padding-for = search in
+    let bits : tie.After-bits-for = search in
+    let packed : tie.At-match-came = search in
+    let counted : tie.After-count-of = search in
+    let start : tie.Start = search in
+    let m = start .args .m in
+    let out = now (start .args .out) in
     let layout = layoutFor (m .kind) (countOf m) in
     let p : narrow (padding layout) ≡ padding layout = omega arith in
-    c .before .before .write-field2 .ensures
+    padded .write-field2 .ensures
     ∙ rw (
-      written (c .before .before .before .before .before .before),
-      c .before .before .before .before .bits-for .ensures,
-      c .before .before .before .padding-for .ensures,
-      c .before .before .before .before .before .before .before .count-of .ensures,
+      written packed,
+      bits .bits-for .ensures,
+      room .padding-for .ensures,
+      counted .count-of .ensures,
       p,
     )
 

@@ -16,7 +16,8 @@ kind-refusal-requires c κs = tt
 
 returns : tie.Need-returns
 returns c =
-    let a = c .before .before .args in
+    let start : tie.Start = search in
+    let a = start .args in
     c .kind-refusal .ensures ∙ ap kindRefusal (c .before .if1 .taken) ∙ sym (refused-20 (a .m) (a .room) (c .before .if1 .taken))
 
 message-fits-requires : tie.Need-message-fits-requires
@@ -24,9 +25,10 @@ message-fits-requires c κs = tt
 
 returns-2 : tie.Need-returns-2
 returns-2 c =
-    let s = c .before .before .before in
+    let known : tie.Else1 = search in
+    let s : tie.Start = search in
     sym
-    (refused-23 (s .args .m) (s .args .room) (held (s .args .m) (s .good .0)) (c .before .before .if1 .left)
+    (refused-23 (s .args .m) (s .args .room) (held (s .args .m) (s .good .0)) (known .if1 .left)
     (sym (c .before .message-fits .ensures) ∙ not-true _ (c .if2 .taken)))
 
 count-of-requires : tie.Need-count-of-requires
@@ -41,18 +43,24 @@ whole c = c .bytes-for .ensures ∙ rw (c .before .count-of .ensures)
 
 returns-3 : tie.Need-returns-3
 returns-3 c =
-    let s = c .before .before .before .before .before .before in
+    let fitting : tie.Else2 = search in
+    let tested : tie.After-message-fits = search in
+    let known : tie.Else1 = search in
+    let s : tie.Start = search in
     sym
-    (refused-24 (s .args .m) (s .args .room) (held (s .args .m) (s .good .0)) (c .before .before .before .before .before .if1 .left)
-    (sym (c .before .before .before .before .message-fits .ensures) ∙ not-false _ (c .before .before .before .if2 .left))
+    (refused-24 (s .args .m) (s .args .room) (held (s .args .m) (s .good .0)) (known .if1 .left)
+    (sym (tested .message-fits .ensures) ∙ not-false _ (fitting .if2 .left))
     (omega (arith, whole (c .before), c .if3 .taken)))
 
 returns-4 : tie.Need-returns-4
 returns-4 c =
-    let s = c .before .before .before .before .before .before in
+    let fitting : tie.Else2 = search in
+    let tested : tie.After-message-fits = search in
+    let known : tie.Else1 = search in
+    let s : tie.Start = search in
     sym
-    (refused-none (s .args .m) (s .args .room) (held (s .args .m) (s .good .0)) (c .before .before .before .before .before .if1 .left)
-    (sym (c .before .before .before .before .message-fits .ensures) ∙ not-false _ (c .before .before .before .if2 .left))
+    (refused-none (s .args .m) (s .args .room) (held (s .args .m) (s .good .0)) (known .if1 .left)
+    (sym (tested .message-fits .ensures) ∙ not-false _ (fitting .if2 .left))
     (omega (arith, whole (c .before), c .if3 .left)))
 
 pub writing-refusal-spec : {M : Type 1} → statement M

@@ -48,26 +48,29 @@ padding-for-requires c κs = search needs
 write-field-requires : tie.Need-write-field-requires
 write-field-requires c κs = search needs
 
+abbrev begin : tie.After-write-fields → tie.Start
+begin c = c .before .before .before .before .before .before .before .before .before
+
 returns : tie.Need-returns
 unfolding setupInto writeFrom
 returns c =
-    let a = c .before .before .before .before .before .before .before .before .before .before .before .before .before .before .before .before .before .before .before .before .before .before .before .before .before .args in
-    let layout = setupLayoutFor (a .s .days) (a .s .authorisations) in
+    let padded : tie.After-write-field = search in
+    let room : tie.After-padding-for = search in
+    let bits : tie.After-bits-for = search in
+    let rows : tie.After-write-rows = search in
+    let codes : tie.After-write-codes = search in
+    let head : tie.After-write-fields = search in
+    let start = begin head in
+    let layout = setupLayoutFor (start .args .s .days) (start .args .s .authorisations) in
     let p : narrow (padding layout) ≡ padding layout = omega arith in
-    c .before .before .write-field .ensures
-    ∙ rw (
-      c .before .before .before .before .before .before .before .before .write-rows .ensures,
-      c .before .before .before .before .before .before .before .before .before .before .before .before .write-codes .ensures,
-      c .before .before .before .before .before .before .before .before .before .before .before .before .before .before .before .before .write-fields .ensures,
-      c .before .before .before .before .before .bits-for .ensures,
-      c .before .before .before .before .padding-for .ensures,
-      p,
-    )
+    padded .write-field .ensures
+    ∙ rw (rows .write-rows .ensures, codes .write-codes .ensures, head .write-fields .ensures, bits .bits-for .ensures, room .padding-for .ensures, p)
 
 same-length : tie.Need-same-length
 same-length c =
-    let a = c .before .before .before .before .before .before .before .before .before .before .before .before .before .before .before .before .before .before .before .before .before .before .before .before .before .args in
-    ap length (returns c) ∙ setup-into-length (a .s) (now (a .out))
+    let head : tie.After-write-fields = search in
+    let start = begin head in
+    ap length (returns c) ∙ setup-into-length (start .args .s) (now (start .args .out))
 
 pub write-whole-spec : {M : Type 1} → statement M
 write-whole-spec =

@@ -31,7 +31,8 @@ cast-base c = search needs
 
 mul-base : tie.Need-mul-base Inv-loop μ-loop
 mul-base c =
-    let a = c .before .before .before .before .before .args in
+    let start : tie.Start Inv-loop μ-loop = search in
+    let a = start .args in
     omega (arith, product-few (a .slot) (a .c .days) (omega arith) (omega arith))
 
 cast-base-2 : tie.Need-cast-base-2 Inv-loop μ-loop
@@ -39,12 +40,14 @@ cast-base-2 c = search needs
 
 add-base : tie.Need-add-base Inv-loop μ-loop
 add-base c =
-    let a = c .before .before .before .before .before .args in
+    let start : tie.Start Inv-loop μ-loop = search in
+    let a = start .args in
     omega (arith, product-few (a .slot) (a .c .days) (omega arith) (omega arith))
 
 mul-base-2 : tie.Need-mul-base-2 Inv-loop μ-loop
 mul-base-2 c =
-    let a = c .before .before .before .before .before .args in
+    let start : tie.Start Inv-loop μ-loop = search in
+    let a = start .args in
     omega (arith, product-few (a .slot) (a .c .days) (omega arith) (omega arith))
 
 cast-periods-of : tie.Need-cast-periods-of Inv-loop μ-loop
@@ -61,9 +64,12 @@ cast-periods c = search needs
 
 row-right-requires : tie.Need-row-right-requires Inv-loop μ-loop
 row-right-requires c κs =
-    let a = c .before .before .before .before .before .before .args in
-    let d = c .before .before .before .before .loop .d in
-    let e = c .periods-of .ensures ∙ sym (periods-inside (a .c) d (c .before .before .if1 .taken)) in
+    let inside : tie.Then1 Inv-loop μ-loop = search in
+    let turn : tie.At-loop Inv-loop μ-loop = search in
+    let start : tie.Start Inv-loop μ-loop = search in
+    let a = start .args in
+    let d = turn .loop .d in
+    let e = c .periods-of .ensures ∙ sym (periods-inside (a .c) d (inside .if1 .taken)) in
     (rw e (day-length (timeOf (a .c) .codes) d), omega arith)
 
 add-d : tie.Need-add-d Inv-loop μ-loop
@@ -74,9 +80,12 @@ loop-less c = search needs
 
 loop-again : tie.Need-loop-again Inv-loop μ-loop
 loop-again c =
-    let a = c .before .before .before .before .before .before .before .args in
-    let l = c .before .before .before .before .before .loop in
-    let e = c .before .periods-of .ensures ∙ sym (periods-inside (a .c) (l .d) (c .before .before .before .if1 .taken)) in (
+    let inside : tie.Then1 Inv-loop μ-loop = search in
+    let turn : tie.At-loop Inv-loop μ-loop = search in
+    let start : tie.Start Inv-loop μ-loop = search in
+    let a = start .args in
+    let l = turn .loop in
+    let e = c .before .periods-of .ensures ∙ sym (periods-inside (a .c) (l .d) (inside .if1 .taken)) in (
       omega arith,
       ap₂ _&&_ (l .inv .1) (c .row-right .ensures ∙ rw e)
           ∙ sym (every-more (l .d) (λ (k : ℕ). rowRight (now (a .side)) ((a .slot * a .c .days + k) * 50) (periodsAt (timeOf (a .c) .codes) k) (a .held))),
@@ -85,8 +94,10 @@ loop-again c =
 returns : tie.Need-returns Inv-loop μ-loop
 unfolding daysRight
 returns c =
-    let a = c .before .before .before .before .args in
-    let l = c .before .before .loop in
+    let turn : tie.At-loop Inv-loop μ-loop = search in
+    let start : tie.Start Inv-loop μ-loop = search in
+    let a = start .args in
+    let l = turn .loop in
     let e : l .d ≡ a .c .days = omega arith in
     l .inv .1 ∙ ap (λ (n : ℕ). everyBelow n (λ (k : ℕ). rowRight (now (a .side)) ((a .slot * a .c .days + k) * 50) (periodsAt (timeOf (a .c) .codes) k) (a .held))) e
 

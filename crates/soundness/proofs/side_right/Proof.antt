@@ -30,29 +30,36 @@ cast-days c = search needs
 
 returns : tie.Need-returns Inv-loop μ-loop
 unfolding sideRight
-returns c = rw (lt-leb (c .before .before .before .args .c .days) 8 (c .if1 .taken))
+returns c =
+    let start : tie.Start Inv-loop μ-loop = search in
+    rw (lt-leb (start .args .c .days) 8 (c .if1 .taken))
 
 returns-2 : tie.Need-returns-2 Inv-loop μ-loop
 unfolding sideRight
 returns-2 c =
-    let a = c .before .before .before .before .args in
+    let start : tie.Start Inv-loop μ-loop = search in
+    let a = start .args in
     rw (le-leb (a .c .days) 8 (c .before .if1 .left), lt-leb (length (now (a .held))) 256 (c .if2 .taken))
 
 mul-if3 : tie.Need-mul-if3 Inv-loop μ-loop
 mul-if3 c =
-    let a = c .before .before .before .before .args in
+    let start : tie.Start Inv-loop μ-loop = search in
+    let a = start .args in
     omega (arith, product-few (length (now (a .held))) (a .c .days) (c .if2 .left) (c .before .if1 .left))
 
 mul-if3-2 : tie.Need-mul-if3-2 Inv-loop μ-loop
 mul-if3-2 c =
-    let a = c .before .before .before .before .args in
+    let start : tie.Start Inv-loop μ-loop = search in
+    let a = start .args in
     omega (arith, product-few (length (now (a .held))) (a .c .days) (c .if2 .left) (c .before .if1 .left))
 
 returns-3 : tie.Need-returns-3 Inv-loop μ-loop
 unfolding sideRight
 returns-3 c =
-    let a = c .before .before .before .before .before .args in
-    rw (le-leb (a .c .days) 8 (c .before .before .if1 .left), le-leb (length (now (a .held))) 256 (c .before .if2 .left), ne-eqb (length (now (a .side))) (places (length (now (a .held))) (a .c .days)) (c .if3 .taken))
+    let few-days : tie.Else1 Inv-loop μ-loop = search in
+    let start : tie.Start Inv-loop μ-loop = search in
+    let a = start .args in
+    rw (le-leb (a .c .days) 8 (few-days .if1 .left), le-leb (length (now (a .held))) 256 (c .before .if2 .left), ne-eqb (length (now (a .side))) (places (length (now (a .held))) (a .c .days)) (c .if3 .taken))
 
 loop-holds : tie.Need-loop-holds Inv-loop μ-loop
 loop-holds c = (omega arith, sym (every-none _))
@@ -65,12 +72,17 @@ shared-slice-read-entry c = search needs
 
 days-right-requires : tie.Need-days-right-requires Inv-loop μ-loop
 days-right-requires c κs =
-    let a = c .before .before .before .before .before .before .before .before .args in
-    let s = c .before .before .loop .s in
+    let turn : tie.At-loop Inv-loop μ-loop = search in
+    let lent : tie.Else3 Inv-loop μ-loop = search in
+    let few-slots : tie.Else2 Inv-loop μ-loop = search in
+    let few-days : tie.Else1 Inv-loop μ-loop = search in
+    let start : tie.Start Inv-loop μ-loop = search in
+    let a = start .args in
+    let s = turn .loop .s in
     record {
-      days-few = c .before .before .before .before .before .if1 .left;
-      slot-few = omega (arith, c .before .before .before .before .if2 .left);
-      inside = omega (arith, c .before .before .before .if3 .left, mul-le-mul-right (a .c .days * 50) (c .before .loop-test .taken));
+      days-few = few-days .if1 .left;
+      slot-few = omega (arith, few-slots .if2 .left);
+      inside = omega (arith, lent .if3 .left, mul-le-mul-right (a .c .days * 50) (c .before .loop-test .taken));
     }
 
 add-s : tie.Need-add-s Inv-loop μ-loop
@@ -81,8 +93,10 @@ loop-less c = search needs
 
 loop-again : tie.Need-loop-again Inv-loop μ-loop
 loop-again c =
-    let a = c .before .before .before .before .before .before .before .before .before .args in
-    let l = c .before .before .before .loop in
+    let turn : tie.At-loop Inv-loop μ-loop = search in
+    let start : tie.Start Inv-loop μ-loop = search in
+    let a = start .args in
+    let l = turn .loop in
     let held = now (a .held) in (
       omega arith,
       ap₂ _&&_ (l .inv .1) (c .days-right .ensures ∙ ap (λ (b : Bool). daysRight (now (a .side)) (l .s) b (a .c)) (sym (held-test (getD held (l .s) 0))))
@@ -92,11 +106,15 @@ loop-again c =
 returns-4 : tie.Need-returns-4 Inv-loop μ-loop
 unfolding sideRight
 returns-4 c =
-    let a = c .before .before .before .before .before .before .before .args in
+    let lent : tie.Else3 Inv-loop μ-loop = search in
+    let few-slots : tie.Else2 Inv-loop μ-loop = search in
+    let few-days : tie.Else1 Inv-loop μ-loop = search in
+    let start : tie.Start Inv-loop μ-loop = search in
+    let a = start .args in
     let l = c .before .loop in
     let e : l .s ≡ length (now (a .held)) = omega arith in
-    let w = c .before .before .if3 .left in
-    rw (le-leb (a .c .days) 8 (c .before .before .before .before .if1 .left), le-leb (length (now (a .held))) 256 (c .before .before .before .if2 .left), eq-eqb (length (now (a .side))) (places (length (now (a .held))) (a .c .days)) w)
+    let w = lent .if3 .left in
+    rw (le-leb (a .c .days) 8 (few-days .if1 .left), le-leb (length (now (a .held))) 256 (few-slots .if2 .left), eq-eqb (length (now (a .side))) (places (length (now (a .held))) (a .c .days)) w)
     (l .inv .1 ∙ ap (λ (n : ℕ). everyBelow n (λ (k : ℕ). daysRight (now (a .side)) k (ltb 0 (getD (now (a .held)) k 0)) (a .c))) e ∙ sym (table-days (now (a .side)) (now (a .held)) (a .c) w))
 
 pub side-right-spec : {M : Type 1} → statement M
