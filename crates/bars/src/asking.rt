@@ -1,7 +1,7 @@
 // Who asks for a mark, and for which period: an account of the book and of the identifier's pair.
 use crate::rows;
-use book::numbers;
 use book::state;
+use limits::numbers;
 ghost use mathlib.Core.Bool.{_&&_};
 ghost use mathlib.Core.Path.{_≡_};
 ghost use Rattle.words.specs.Tests.{_<?_};

@@ -2,8 +2,8 @@
 use crate::Marked;
 use crate::asking;
 use crate::rows;
-use book::numbers;
 use book::state;
+use limits::numbers;
 use shown::Bar;
 ghost use mathlib.Core.Path.{_≡_};
 ghost use Prim.Native.Nat.{ℕ, _+_, _≤_};

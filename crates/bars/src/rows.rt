@@ -1,8 +1,8 @@
 // "The day's row is shown as a part of side 1's or side 2's own table, the day's length long; it is empty exactly on a refusal, whose number is
 // asked apart."
 use crate::RowPlace;
-use book::numbers;
 use book::state;
+use limits::numbers;
 ghost use mathlib.Core.Bool.{not, true};
 ghost use mathlib.Core.Path.{_≡_};
 ghost use Prim.Native.Nat.{_≤_, _<_};
@@ -47,7 +47,7 @@ pub(crate) fn index_of(b: book::Book, slot: usize, day: u16, period: u8) -> usiz
 {
     let s = b.setup;
     let d = day_of(b, day);
-    (slot * s.days as usize + d as usize) * ledger::PLACES_A_DAY + (period as usize - 1)
+    (slot * s.days as usize + d as usize) * limits::PLACES_A_DAY + (period as usize - 1)
 }
 
 // The number that refuses a row, or 0.

@@ -1,6 +1,5 @@
 // A book by value beside its lent tables: `held`, an entry a slot (0 unheld, else one more than originator * 65,536 + reference), and a table
 // of volumes for each side, slots times days times 50.
-pub mod numbers; // numbers.rt: the answer numbers
 pub mod state; // state.rt: the clock and the authorisations of a book, and its soundness
 pub mod opening; // opening.rt: a setup and three lent tables to a book
 

@@ -2,6 +2,7 @@
 use crate::Book;
 use crate::Opened;
 use crate::OpenedPacked;
+use limits::numbers;
 ghost use mathlib.Core.Path.{_≡_};
 ghost use lib.ListN.{length, replicate};
 ghost use Rattle.words.specs.Rules.{answer};
@@ -20,10 +21,10 @@ pub fn opening_refusal(s: setups::Setup, slots: usize, lent1: usize, lent2: usiz
         | setups::rules::lent_wrong(s, slots, lent1, lent2)
         | setups::rules::code_wrong(s)
     {
-        return setups::rules::SETUP_WRONG;
+        return numbers::SETUP_WRONG;
     }
     if setups::rules::some_row_wrong(s) {
-        return setups::rules::ROW_WRONG;
+        return numbers::ROW_WRONG;
     }
     0
 }
@@ -38,7 +39,7 @@ fn no_book() -> Book
             days: 0,
             accounts: 0,
             authorisations: 0,
-            codes: [0u8; 8],
+            codes: [0u8; limits::MOST_DAYS_WIDE],
             rows: [setups::Authorisation {
                 agent1: 0,
                 agent2: 0,
@@ -48,7 +49,7 @@ fn no_book() -> Book
                 first: 0,
                 last: 0,
                 amendment: 0,
-            }; 64],
+            }; limits::MOST_AUTHORISATIONS_WIDE],
         },
         closed: 0,
     }

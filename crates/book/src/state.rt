@@ -7,9 +7,9 @@ ghost use Rattle.meaning.specs.Authorisations.{rowAt};
 ghost use Rattle.setups.specs.Structs.{rowOf};
 ghost use Rattle.book.specs.Structs.{clockIn, rowsIn, originPlace, originRow, bookOf};
 
-const MOST_ROWS: u32 = 64;
+const MOST_ROWS: u32 = limits::MOST_AUTHORISATIONS as u32;
 
-const LAST_ROW: usize = 63;
+const LAST_ROW: usize = limits::MOST_AUTHORISATIONS_WIDE - 1;
 
 // The days and the gates closed, for the questions of `clock`.
 pub fn clock_of(b: Book) -> clock::Clock

@@ -1,8 +1,8 @@
 // "One call closes the next gate."
 use crate::Gated;
 use book::Book;
-use book::numbers;
 use book::state;
+use limits::numbers;
 ghost use mathlib.Core.Path.{_≡_};
 ghost use Rattle.words.specs.Rules.{answer};
 ghost use Rattle.meaning.specs.Calls.{gateRules};

@@ -2,8 +2,8 @@
 use crate::Notified;
 use crate::sound_book;
 use book::Book;
-use book::numbers;
 use book::state;
+use limits::numbers;
 ghost use mathlib.Core.Path.{_≡_};
 ghost use Rattle.meaning.specs.Messages.{notification};
 ghost use Rattle.meaning.specs.Notifications.{notified};

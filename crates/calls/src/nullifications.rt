@@ -1,8 +1,8 @@
 // A nullification blanks both sides of each identifier between its two accounts (document 01, "What a notification does"; refusals 1, 2, 15, 9).
 use crate::sound_book;
 use book::Book;
-use book::numbers;
 use book::state;
+use limits::numbers;
 ghost use mathlib.Core.Path.{_≡_};
 ghost use Rattle.words.specs.Rules.{answer};
 ghost use Rattle.meaning.specs.Messages.{nullification};

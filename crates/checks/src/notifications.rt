@@ -1,7 +1,7 @@
 // What can be wrong with a notification (meaning, Notifications.antt): refusals 2 to 11, which need no table, for any book, sound or not; and 12 to 14.
 use book::Book;
-use book::numbers;
 use book::state;
+use limits::numbers;
 ghost use mathlib.Core.Bool.{not, _||_};
 ghost use mathlib.Core.List.{[]};
 ghost use mathlib.Core.Path.{_≡_};
@@ -15,10 +15,6 @@ ghost use Rattle.messages.specs.Structs.{notificationOf};
 ghost use Rattle.setups.specs.Structs.{rowOf};
 ghost use Rattle.book.specs.Structs.{timeIn, rowsIn, settingIn};
 ghost use Rattle.checks.specs.Checks.{checkRules, lateRules};
-
-const MOST_ENTRIES: u8 = 50;
-
-const PLAIN_DAY: u8 = 48;
 
 const LAST_PLACE: u16 = 255;
 
@@ -75,7 +71,7 @@ fn highest_period(b: Book, n: messages::Notification) -> u8
     ensures { λ r. ⌜ r ≡ highestPeriod (settingIn b) (notificationOf n) ⌝ }
 {
     if n.first != n.last {
-        return PLAIN_DAY;
+        return limits::PLAIN_DAY;
     }
     let place = place_of(b, n.first);
     clock::periods_at(state::clock_of(b), place)
@@ -86,7 +82,7 @@ fn period_wrong(b: Book, n: messages::Notification) -> bool
     ensures { λ r. ⌜ r ≡ periodWrong (settingIn b) (notificationOf n) ⌝ }
 {
     let count = n.count;
-    if MOST_ENTRIES < count {
+    if limits::MOST_ENTRIES < count {
         return true;
     }
     let highest = highest_period(b, n);
@@ -106,15 +102,15 @@ fn period_wrong(b: Book, n: messages::Notification) -> bool
 fn volume_out(v: i32) -> bool
     ensures { λ r. ⌜ r ≡ not (within 99999999 v) ⌝ }
 {
-    !((ledger::LEAST_KWH <= v) & (v <= ledger::MOST_KWH))
+    !((limits::LEAST_KWH <= v) & (v <= limits::MOST_KWH))
 }
 
 // The entries that the struct has room for.
 fn count_in(n: messages::Notification) -> u8
     ensures { λ r. ⌜ r ≡ min (n .count) 50 ⌝ }
 {
-    if MOST_ENTRIES < n.count {
-        return MOST_ENTRIES;
+    if limits::MOST_ENTRIES < n.count {
+        return limits::MOST_ENTRIES;
     }
     n.count
 }

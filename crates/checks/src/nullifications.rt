@@ -1,7 +1,7 @@
 // What can be wrong with a nullification that is not soundness (document 01: refusals 2, 15, 9), for any book, sound or not.
 use book::Book;
-use book::numbers;
 use book::state;
+use limits::numbers;
 ghost use mathlib.Core.Path.{_≡_};
 ghost use Rattle.words.specs.Rules.{answer};
 ghost use Rattle.meaning.specs.Calls.{accountsWrong};

@@ -3,20 +3,12 @@ ghost use mathlib.Core.Path.{_≡_};
 ghost use Rattle.meaning.specs.Time.{periodsOfCode, periodsAt, isPeriodAt, gatesBefore, allGates, isOpenAt, hasDay, isPeriod, everyGateClosed, currentDay};
 ghost use Rattle.clock.specs.Structs.{timeOf};
 
-pub const MOST_DAYS: u8 = 8;
-
-const SHORT_DAY: u8 = 46;
-
-const PLAIN_DAY: u8 = 48;
-
-const LONG_DAY: u8 = 50;
-
 // The number of the first day, the first `days` codes, and the number of gates closed.
 #[repr(C)]
 pub struct Clock {
     pub first: u16,
     pub days: u8,
-    pub codes: [u8; 8],
+    pub codes: [u8; limits::MOST_DAYS_WIDE],
     pub closed: u16,
 }
 
@@ -25,9 +17,9 @@ pub fn periods_of(code: u8) -> u8
     ensures { λ r. ⌜ r ≡ periodsOfCode code ⌝ }
 {
     match code {
-        0 => SHORT_DAY,
-        1 => PLAIN_DAY,
-        2 => LONG_DAY,
+        0 => limits::SHORT_DAY,
+        1 => limits::PLAIN_DAY,
+        2 => limits::LONG_DAY,
         _ => 0,
     }
 }
@@ -39,7 +31,7 @@ pub fn periods_at(c: Clock, d: u8) -> u8
     if c.days <= d {
         return periods_of(0);
     }
-    if MOST_DAYS <= d {
+    if limits::MOST_DAYS <= d {
         return periods_of(0);
     }
     periods_of(c.codes[d as usize])

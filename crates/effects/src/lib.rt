@@ -15,30 +15,28 @@ ghost use Rattle.clock.specs.Structs.{timeOf};
 ghost use Rattle.book.specs.Structs.{timeIn};
 ghost use Rattle.effects.specs.Effects.{only, slotRule, DayInside, SlotGiven, pairIn, nullified, pairBlanked};
 
-const MOST_ENTRIES: u8 = 50;
-
 // Entries past the array are of period 0, and give nothing.
 fn entries_inside(count: u8) -> usize
     ensures { λ r. ⌜ r ≡ min count 50 ⌝ }
 {
-    if count < MOST_ENTRIES {
+    if count < limits::MOST_ENTRIES {
         return count as usize;
     }
-    MOST_ENTRIES as usize
+    limits::MOST_ENTRIES as usize
 }
 
 // The volume that a notification gives for each period. From the last entry down, so that a period's first entry stands.
-pub fn volumes_of(n: messages::Notification) -> [i32; 50]
+pub fn volumes_of(n: messages::Notification) -> [i32; limits::PLACES_A_DAY]
     ensures { λ r. ⌜ r ≡ build 50 (λ (p : ℕ). volume (notificationOf n .entries) (suc p)) ⌝ }
 {
-    let mut volumes: [i32; 50] = [0; 50];
+    let mut volumes: [i32; limits::PLACES_A_DAY] = [0; limits::PLACES_A_DAY];
     let mut k = entries_inside(n.count);
     while 0 < k {
         k -= 1;
         let e = n.entries[k];
         let place = e.period as usize;
         let volume = e.volume;
-        if (0 < place) & (place <= ledger::PLACES_A_DAY) {
+        if (0 < place) & (place <= limits::PLACES_A_DAY) {
             volumes[place - 1] = volume;
         }
     }
@@ -78,7 +76,7 @@ fn write_day(
     if day < first as u32 {
         return;
     }
-    let base = (slot * c.days as usize + d as usize) * ledger::PLACES_A_DAY;
+    let base = (slot * c.days as usize + d as usize) * limits::PLACES_A_DAY;
     let closed = closed_on(c, d);
     let periods = clock::periods_at(c, d) as usize;
     if day < until {
@@ -114,7 +112,7 @@ pub fn write_slot(
     slot: u8,
     first: u16,
     last: u16,
-    volumes: [i32; 50],
+    volumes: [i32; limits::PLACES_A_DAY],
 )
     ensures { λ r. ⌜ now (side .exit) ≡ mapAt (slotRule (timeOf c) slot first (suc last) volumes) (now (side .entry)) ⌝ }
 {
@@ -139,7 +137,7 @@ fn blank_slots(side: &mut [i32], held: &[u32], b: Book, account: u8, other: u8, 
     ensures { λ r. ⌜ ((σ : Side) → now (side .exit) ≡ rewritten (rowsOf (b .setup .authorisations) (b .setup .rows)) (timeIn b) (nullified account other first) (now (held .entry)) σ (now (side .entry))) ⌝ }
 {
     let c = state::clock_of(b);
-    let unused: [i32; 50] = [0; 50];
+    let unused: [i32; limits::PLACES_A_DAY] = [0; limits::PLACES_A_DAY];
     let mut s: usize = 0;
     while s < held.len() {
         let entry = held[s];
@@ -155,7 +153,7 @@ fn blank_slots(side: &mut [i32], held: &[u32], b: Book, account: u8, other: u8, 
 pub fn blank_pair(side: &mut [i32], held: &[u32], b: Book, account: u8, other: u8, first: u16)
     ensures { λ r. ⌜ ((σ : Side) → now (side .exit) ≡ pairBlanked b account other first (now (held .entry)) σ (now (side .entry))) ⌝ }
 {
-    if ledger::MOST_SLOTS < held.len() {
+    if limits::MOST_SLOTS < held.len() {
         return;
     }
     blank_slots(side, held, b, account, other, first);

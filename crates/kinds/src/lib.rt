@@ -70,7 +70,7 @@ fn states_at(
     requires { ⌜ Inside (now side1) (now side2) days s d p ⌝ }
     ensures { λ r. ⌜ r ≡ statesPlace (now (side1 .entry)) (now (side2 .entry)) w1 w2 (placeOf days s d p) ⌝ }
 {
-    let i = (s * days as usize + d as usize) * ledger::PLACES_A_DAY + p as usize;
+    let i = (s * days as usize + d as usize) * limits::PLACES_A_DAY + p as usize;
     let stated1 = ledger::states(side1[i]);
     let stated2 = ledger::states(side2[i]);
     (w1 & stated1) | (w2 & stated2)
@@ -215,13 +215,13 @@ fn tables_fit(b: Book, slots: usize, lent1: usize, lent2: usize) -> bool
     ensures { λ r. ⌜ r ≡ fits b slots lent1 lent2 ⌝ }
 {
     let days = b.setup.days;
-    if clock::MOST_DAYS < days {
+    if limits::MOST_DAYS < days {
         return false;
     }
-    if ledger::MOST_SLOTS < slots {
+    if limits::MOST_SLOTS < slots {
         return false;
     }
-    let all = slots * days as usize * ledger::PLACES_A_DAY;
+    let all = slots * days as usize * limits::PLACES_A_DAY;
     (lent1 == all) & (lent2 == all)
 }
 

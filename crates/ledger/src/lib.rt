@@ -9,15 +9,6 @@ ghost use Rattle.meaning.specs.Ledgers.{contracts, stands, theMark};
 // "the mark -2,147,483,648 means nothing stands"
 pub const MARK: i32 = -2147483648;
 
-pub const LEAST_KWH: i32 = -99999999;
-
-pub const MOST_KWH: i32 = 99999999;
-
-// The places of a side: slots times days times 50.
-pub const PLACES_A_DAY: usize = 50;
-
-pub const MOST_SLOTS: usize = 256;
-
 // An identifier is originator * 65,536 + reference.
 pub const REFERENCES: u32 = 65536;
 

@@ -1,4 +1,5 @@
 // Reading: empty 19, kind three 20, short of the 12 or 4 bytes 19, more than fifty entries 21, short of the whole 19, a padding bit 22.
+use limits::numbers;
 use messages::Entry;
 use messages::Message;
 use messages::Notification;
@@ -21,12 +22,6 @@ pub struct MessageRead {
     pub length: usize,
     pub message: messages::Message,
 }
-
-const BYTES_END_TOO_SOON: u8 = 19;
-
-const TOO_MANY_ENTRIES: u8 = 21;
-
-const PADDING_BIT: u8 = 22;
 
 // The kind, 0 to 3.
 fn kind_in(bytes: &[u8]) -> u8
@@ -59,7 +54,7 @@ pub fn reading_refusal(bytes: &[u8]) -> u8
     ensures { λ r. ⌜ r ≡ answer (readingRules (now (bytes .entry))) ⌝ }
 {
     if bytes.len() == 0 {
-        return BYTES_END_TOO_SOON;
+        return numbers::BYTES_END_TOO_SOON;
     }
     let kind = kind_in(bytes);
     let refused = layouts::kind_refusal(kind);
@@ -67,17 +62,17 @@ pub fn reading_refusal(bytes: &[u8]) -> u8
         return refused;
     }
     if bytes.len() < layouts::bytes_for(kind, 0) {
-        return BYTES_END_TOO_SOON;
+        return numbers::BYTES_END_TOO_SOON;
     }
     let count = count_in(bytes);
-    if layouts::MOST_ENTRIES < count {
-        return TOO_MANY_ENTRIES;
+    if limits::MOST_ENTRIES < count {
+        return numbers::TOO_MANY_ENTRIES;
     }
     if bytes.len() < layouts::bytes_for(kind, count) {
-        return BYTES_END_TOO_SOON;
+        return numbers::BYTES_END_TOO_SOON;
     }
     if padding_set(bytes, kind, count) {
-        return PADDING_BIT;
+        return numbers::PADDING_BIT;
     }
     0
 }
@@ -96,13 +91,13 @@ fn entry_in(bytes: &[u8], k: u8) -> Entry
 }
 
 // The first `count` entries, at most 50; the places past them are zero.
-fn entries_in(bytes: &[u8], count: u8) -> [Entry; 50]
+fn entries_in(bytes: &[u8], count: u8) -> [Entry; limits::MOST_ENTRIES_WIDE]
     ensures { λ r. ⌜ r ≡ entriesIn (now (bytes .entry)) count ⌝ }
 {
     let mut entries = [Entry {
         period: 0,
         volume: 0,
-    }; 50];
+    }; limits::MOST_ENTRIES_WIDE];
     let most = layouts::at_most_fifty(count);
     let mut k: u8 = 0;
     while k < most {
@@ -167,7 +162,7 @@ fn no_message() -> Message
             entries: [Entry {
                 period: 0,
                 volume: 0,
-            }; 50],
+            }; limits::MOST_ENTRIES_WIDE],
         },
         nullification: Nullification {
             account: 0,

@@ -1,4 +1,5 @@
 // Writing: kind three 20, a value that does not fit its field or more than fifty entries 23, no room 24. A refusal leaves the whole buffer as it was.
+use limits::numbers;
 use messages::Entry;
 use messages::Message;
 use messages::Notification;
@@ -18,10 +19,6 @@ pub struct MessageWritten {
     pub length: usize,
 }
 
-const VALUE_DOES_NOT_FIT: u8 = 23;
-
-const NO_ROOM: u8 = 24;
-
 const SIX_BITS: u8 = 64;
 // "period 6, volume 28 in two's complement"
 const ENTRY_WIDTHS: [u8; 2] = [6, 28];
@@ -39,7 +36,7 @@ fn entries_fit(n: Notification) -> bool
     ensures { λ r. ⌜ r ≡ entriesFit n ⌝ }
 {
     let count = n.count;
-    if layouts::MOST_ENTRIES < count {
+    if limits::MOST_ENTRIES < count {
         return false;
     }
     let mut k: u8 = 0;
@@ -100,10 +97,10 @@ pub fn writing_refusal(m: Message, room: usize) -> u8
         return layouts::kind_refusal(kind);
     }
     if !message_fits(m) {
-        return VALUE_DOES_NOT_FIT;
+        return numbers::VALUE_DOES_NOT_FIT;
     }
     if room < layouts::bytes_for(kind, count_of(m)) {
-        return NO_ROOM;
+        return numbers::NO_ROOM;
     }
     0
 }

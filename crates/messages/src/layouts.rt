@@ -1,16 +1,10 @@
 // The layouts' sizes: bits, bytes and padding of a message of a kind and a number of entries.
+use limits::numbers;
 ghost use mathlib.Core.Path.{_≡_};
 ghost use Rattle.words.specs.Fields.{total, bytesFor, padding};
 ghost use Rattle.meaning.specs.PackedMessages.{layoutFor};
 ghost use Prim.Native.Nat.{min};
 ghost use Rattle.messages.specs.Parts.{kindRefusal};
-
-const KIND_THREE: u8 = 20;
-
-// A kind is a field of 2 bits.
-const KIND_DOES_NOT_FIT: u8 = 23;
-
-pub const MOST_ENTRIES: u8 = 50;
 
 // "Notification: kind 1 (2), authorisation 6, agent 8, key 16, originator 6, reference 16, first day 16, last day 16, count 6"
 pub const NOTIFICATION_WIDTHS: [u8; 9] = [2, 6, 8, 16, 6, 16, 16, 16, 6];
@@ -25,7 +19,7 @@ const NULLIFICATION_BITS: u32 = 30;
 
 const KIND_BITS: u32 = 2;
 
-// The fourth kind is refused by its own number; a kind above it does not fit its field.
+// The fourth kind is refused by its own number; a kind above it does not fit its field of 2 bits.
 pub fn kind_refusal(kind: u8) -> u8
     ensures { λ r. ⌜ r ≡ kindRefusal kind ⌝ }
 {
@@ -33,8 +27,8 @@ pub fn kind_refusal(kind: u8) -> u8
         0 => 0,
         1 => 0,
         2 => 0,
-        3 => KIND_THREE,
-        _ => KIND_DOES_NOT_FIT,
+        3 => numbers::KIND_THREE,
+        _ => numbers::VALUE_DOES_NOT_FIT,
     }
 }
 
@@ -42,10 +36,10 @@ pub fn kind_refusal(kind: u8) -> u8
 pub fn at_most_fifty(count: u8) -> u8
     ensures { λ r. ⌜ r ≡ min count 50 ⌝ }
 {
-    if count < MOST_ENTRIES {
+    if count < limits::MOST_ENTRIES {
         count
     } else {
-        MOST_ENTRIES
+        limits::MOST_ENTRIES
     }
 }
 

@@ -19,7 +19,7 @@ pub struct Notification {
     pub first: u16,
     pub last: u16,
     pub count: u8,
-    pub entries: [Entry; 50],
+    pub entries: [Entry; limits::MOST_ENTRIES_WIDE],
 }
 
 #[repr(C)]

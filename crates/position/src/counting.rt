@@ -14,7 +14,7 @@ ghost use Rattle.position.specs.Counting.{countedAt};
 pub(crate) fn place_of(slot: u8, days: u8, d: u8, p: u8) -> usize
     ensures { λ r. ⌜ r ≡ index days slot d (suc p) ⌝ }
 {
-    (slot as usize * days as usize + d as usize) * ledger::PLACES_A_DAY + p as usize
+    (slot as usize * days as usize + d as usize) * limits::PLACES_A_DAY + p as usize
 }
 
 // What a place counts for an account, where its slot's identifier has this originating authorisation.
@@ -48,15 +48,15 @@ pub(crate) fn day_refusal(
     ensures { λ r. ⌜ r ≡ answer (figuresRules (bookOf b (now (held .entry)) (now (side1 .entry)) (now (side2 .entry))) account day) ⌝ }
 {
     if !book::state::is_sound(b, held, side1, side2) {
-        return book::numbers::NOT_SOUND;
+        return limits::numbers::NOT_SOUND;
     }
     let s = b.setup;
     if s.accounts <= account {
-        return book::numbers::NO_SUCH_ACCOUNT;
+        return limits::numbers::NO_SUCH_ACCOUNT;
     }
     let c = book::state::clock_of(b);
     if !clock::has_day(c, day) {
-        return book::numbers::NO_SUCH_DAY;
+        return limits::numbers::NO_SUCH_DAY;
     }
     0
 }

@@ -14,22 +14,18 @@ ghost use Rattle.book.specs.Structs.{timeIn, bookOf};
 ghost use Rattle.position.specs.Counting.{DayAsked, PartInside, countedAt, sumAnswered};
 ghost use Rattle.position.specs.Totals.{totalled, dayTotalRules, dayTotals};
 
-const LEAST_TOTAL: i64 = -99999999999;
-
-const MOST_TOTAL: i64 = 99999999999;
-
 // A sum as it is answered: 26 in its place where it has more than 11 digits.
 fn answered(kwh: i64) -> Totalled
     ensures { λ r. ⌜ r ≡ sumAnswered kwh ⌝ }
 {
-    if (LEAST_TOTAL <= kwh) & (kwh <= MOST_TOTAL) {
+    if (limits::LEAST_TOTAL <= kwh) & (kwh <= limits::MOST_TOTAL) {
         return Totalled {
             answer: 0,
             kwh: kwh,
         };
     }
     Totalled {
-        answer: book::numbers::TOTAL_TOO_LARGE,
+        answer: limits::numbers::TOTAL_TOO_LARGE,
         kwh: 0,
     }
 }
@@ -85,7 +81,7 @@ pub fn total(
     let c = book::state::clock_of(b);
     if !clock::is_period_at(c, d, period) {
         return Totalled {
-            answer: book::numbers::NO_SUCH_DAY,
+            answer: limits::numbers::NO_SUCH_DAY,
             kwh: 0,
         };
     }
@@ -175,7 +171,7 @@ pub fn day_totals(
     let d = (day - s.first) as u8;
     let periods = clock::periods_at(book::state::clock_of(b), d);
     if out.len() < periods as usize {
-        return book::numbers::NO_ROOM;
+        return limits::numbers::NO_ROOM;
     }
     store_totals(b, held, side1, side2, account, d, out);
     0

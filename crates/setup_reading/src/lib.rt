@@ -1,4 +1,5 @@
 // Reading: under 5 bytes 19, counts, last day or lent lengths 17, short 19, day code three 17, rows 18, a padding bit 22.
+use limits::numbers;
 use setups::Authorisation;
 use setups::Setup;
 use setups::layouts;
@@ -20,10 +21,6 @@ pub struct SetupRead {
     pub length: usize,
     pub setup: setups::Setup,
 }
-
-const BYTES_END_TOO_SOON: u8 = 19;
-
-const PADDING_BIT: u8 = 22;
 
 const HEAD_BYTES: usize = 5;
 // Some padding bit is 1.
@@ -55,12 +52,12 @@ fn row_in(bytes: &[u8], days: u8, k: u8) -> Authorisation
 }
 
 // The codes of so many days, at most 8; the places past them are zero.
-fn codes_in(bytes: &[u8], days: u8) -> [u8; 8]
+fn codes_in(bytes: &[u8], days: u8) -> [u8; limits::MOST_DAYS_WIDE]
     ensures { λ r. ⌜ r ≡ codesIn (now (bytes .entry)) days ⌝ }
 {
-    let mut codes = [0u8; 8];
+    let mut codes = [0u8; limits::MOST_DAYS_WIDE];
     let mut d: u8 = 0;
-    while d < 8 {
+    while d < limits::MOST_DAYS {
         if d < days {
             codes[d as usize] = fields::read_field(
                 bytes,
@@ -74,7 +71,7 @@ fn codes_in(bytes: &[u8], days: u8) -> [u8; 8]
 }
 
 // So many rows, at most 64; the places past them are zero.
-fn rows_in(bytes: &[u8], days: u8, count: u8) -> [Authorisation; 64]
+fn rows_in(bytes: &[u8], days: u8, count: u8) -> [Authorisation; limits::MOST_AUTHORISATIONS_WIDE]
     ensures { λ r. ⌜ r ≡ rowsIn (now (bytes .entry)) days count ⌝ }
 {
     let mut rows = [Authorisation {
@@ -86,9 +83,9 @@ fn rows_in(bytes: &[u8], days: u8, count: u8) -> [Authorisation; 64]
         first: 0,
         last: 0,
         amendment: 0,
-    }; 64];
+    }; limits::MOST_AUTHORISATIONS_WIDE];
     let mut k: u8 = 0;
-    while k < 64 {
+    while k < limits::MOST_AUTHORISATIONS {
         if k < count {
             let a = row_in(bytes, days, k);
             rows[k as usize] = a;
@@ -128,7 +125,7 @@ fn no_setup() -> Setup
         days: 0,
         accounts: 0,
         authorisations: 0,
-        codes: [0u8; 8],
+        codes: [0u8; limits::MOST_DAYS_WIDE],
         rows: [Authorisation {
             agent1: 0,
             agent2: 0,
@@ -138,7 +135,7 @@ fn no_setup() -> Setup
             first: 0,
             last: 0,
             amendment: 0,
-        }; 64],
+        }; limits::MOST_AUTHORISATIONS_WIDE],
     }
 }
 
@@ -147,26 +144,26 @@ pub fn reading_refusal(bytes: &[u8], slots: usize, lent1: usize, lent2: usize) -
     ensures { λ r. ⌜ r ≡ answer (setupReadingRules (now (bytes .entry)) slots lent1 lent2) ⌝ }
 {
     if bytes.len() < HEAD_BYTES {
-        return BYTES_END_TOO_SOON;
+        return numbers::BYTES_END_TOO_SOON;
     }
     let s = setup_in(bytes);
     if rules::counts_wrong(s)
         | rules::last_day_wrong(s)
         | rules::lent_wrong(s, slots, lent1, lent2)
     {
-        return rules::SETUP_WRONG;
+        return numbers::SETUP_WRONG;
     }
     if bytes.len() < layouts::bytes_for(s.days, s.authorisations) {
-        return BYTES_END_TOO_SOON;
+        return numbers::BYTES_END_TOO_SOON;
     }
     if rules::code_wrong(s) {
-        return rules::SETUP_WRONG;
+        return numbers::SETUP_WRONG;
     }
     if rules::some_row_wrong(s) {
-        return rules::ROW_WRONG;
+        return numbers::ROW_WRONG;
     }
     if padding_set(bytes, s.days, s.authorisations) {
-        return PADDING_BIT;
+        return numbers::PADDING_BIT;
     }
     0
 }

@@ -1,4 +1,5 @@
 // Writing: 17 (lent lengths aside), 18, 23, 24. A refusal leaves the whole buffer as it was.
+use limits::numbers;
 use setups::Authorisation;
 use setups::Setup;
 use setups::layouts;
@@ -17,20 +18,18 @@ pub struct SetupWritten {
     pub length: usize,
 }
 
-const NO_ROOM: u8 = 24;
-
 // The number that refuses this setup for a buffer with this room, or 0. Its values always fit their fields once 17 and 18 have passed, so 23 never comes.
 pub fn writing_refusal(s: Setup, room: usize) -> u8
     ensures { λ r. ⌜ r ≡ answer (setupWritingRules (setupOf s) room) ⌝ }
 {
     if rules::counts_wrong(s) | rules::last_day_wrong(s) | rules::code_wrong(s) {
-        return rules::SETUP_WRONG;
+        return numbers::SETUP_WRONG;
     }
     if rules::some_row_wrong(s) {
-        return rules::ROW_WRONG;
+        return numbers::ROW_WRONG;
     }
     if room < layouts::bytes_for(s.days, s.authorisations) {
-        return NO_ROOM;
+        return numbers::NO_ROOM;
     }
     0
 }
@@ -41,7 +40,7 @@ fn write_codes(s: Setup, out: &mut [u8])
 {
     let days = s.days;
     let mut d: u8 = 0;
-    while d < 8 {
+    while d < limits::MOST_DAYS {
         let code = s.codes[d as usize];
         if d < days {
             fields::write_field(out, 34 + 2 * d as u32, 2, code as u32);
@@ -74,7 +73,7 @@ fn write_rows(s: Setup, out: &mut [u8])
     let days = s.days;
     let count = s.authorisations;
     let mut k: u8 = 0;
-    while k < 64 {
+    while k < limits::MOST_AUTHORISATIONS {
         let a = s.rows[k as usize];
         if k < count {
             write_row(a, layouts::bits_for(days, k), out);

@@ -22,6 +22,6 @@ pub struct Setup {
     pub days: u8,
     pub accounts: u8,
     pub authorisations: u8,
-    pub codes: [u8; 8],
-    pub rows: [Authorisation; 64],
+    pub codes: [u8; limits::MOST_DAYS_WIDE],
+    pub rows: [Authorisation; limits::MOST_AUTHORISATIONS_WIDE],
 }

@@ -1,39 +1,22 @@
 // The setup rules: counts, last day, lent lengths and day codes (17), and the rows (18).
 use crate::Authorisation;
 use crate::Setup;
+use limits::numbers;
 ghost use mathlib.Core.Path.{_≡_};
 ghost use Rattle.meaning.specs.Authorisations.{rowWrong};
 ghost use Rattle.meaning.specs.Books.{countsWrong, lastDayWrong, lentWrong, codeWrong, someRowWrong};
 ghost use Rattle.setups.specs.Structs.{rowOf, setupOf};
 ghost use Rattle.setups.specs.Parts.{codeRefusal, amendmentRefusal};
 
-pub const SETUP_WRONG: u8 = 17;
-
-pub const ROW_WRONG: u8 = 18;
-
-const MOST_DAYS: u8 = 8;
-
-const FEWEST_ACCOUNTS: u8 = 2;
-
-const MOST_ACCOUNTS: u8 = 64;
-
-const MOST_ROWS: u8 = 64;
-
-const MOST_SLOTS: usize = 256;
-
-const PLACES_A_DAY: usize = 50;
-
-const EVERGREEN: u16 = 65535;
-
-const EVERGREEN_WIDE: u32 = 65535;
+const EVERGREEN_WIDE: u32 = limits::EVERGREEN as u32;
 
 // Days, accounts or authorisations out of their bounds.
 pub fn counts_wrong(s: Setup) -> bool
     ensures { λ r. ⌜ r ≡ countsWrong (setupOf s) ⌝ }
 {
-    let days = (1 <= s.days) & (s.days <= MOST_DAYS);
-    let accounts = (FEWEST_ACCOUNTS <= s.accounts) & (s.accounts <= MOST_ACCOUNTS);
-    let rows = (1 <= s.authorisations) & (s.authorisations <= MOST_ROWS);
+    let days = (1 <= s.days) & (s.days <= limits::MOST_DAYS);
+    let accounts = (limits::FEWEST_ACCOUNTS <= s.accounts) & (s.accounts <= limits::MOST_ACCOUNTS);
+    let rows = (1 <= s.authorisations) & (s.authorisations <= limits::MOST_AUTHORISATIONS);
     !(days & accounts & rows)
 }
 
@@ -51,10 +34,10 @@ pub fn lent_wrong(s: Setup, slots: usize, lent1: usize, lent2: usize) -> bool
     if slots < 1 {
         return true;
     }
-    if MOST_SLOTS < slots {
+    if limits::MOST_SLOTS < slots {
         return true;
     }
-    let places = slots * s.days as usize * PLACES_A_DAY;
+    let places = slots * s.days as usize * limits::PLACES_A_DAY;
     !((lent1 == places) & (lent2 == places))
 }
 
@@ -66,7 +49,7 @@ pub fn code_refusal(code: u8) -> u8
         0 => 0,
         1 => 0,
         2 => 0,
-        _ => SETUP_WRONG,
+        _ => numbers::SETUP_WRONG,
     }
 }
 
@@ -78,7 +61,7 @@ pub fn amendment_refusal(amendment: u8) -> u8
         0 => 0,
         1 => 0,
         2 => 0,
-        _ => ROW_WRONG,
+        _ => numbers::ROW_WRONG,
     }
 }
 
@@ -88,7 +71,7 @@ pub fn code_wrong(s: Setup) -> bool
 {
     let mut wrong = false;
     let mut d: usize = 0;
-    while d < 8 {
+    while d < limits::MOST_DAYS_WIDE {
         let code = s.codes[d];
         let refused = code_refusal(code);
         wrong = wrong | ((d < s.days as usize) & (refused != 0));
@@ -105,7 +88,7 @@ pub fn row_wrong(accounts: u8, a: Authorisation) -> bool
     (accounts <= a.account1)
         | (accounts <= a.account2)
         | (a.account1 == a.account2)
-        | (a.first == EVERGREEN)
+        | (a.first == limits::EVERGREEN)
         | (a.last < a.first)
         | (refused != 0)
 }
@@ -115,7 +98,7 @@ pub fn some_row_wrong(s: Setup) -> bool
     ensures { λ r. ⌜ r ≡ someRowWrong (setupOf s) ⌝ }
 {
     let count = s.authorisations;
-    if MOST_ROWS < count {
+    if limits::MOST_AUTHORISATIONS < count {
         return true;
     }
     let mut k: u8 = 0;

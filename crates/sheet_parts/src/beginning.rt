@@ -19,7 +19,7 @@ const DAYS_BITS: u8 = 4;
 pub fn lent_for(bytes: &[u8]) -> usize
     ensures { λ r. ⌜ (r ≡ lentFor (now (bytes .entry))) × (r ≤ 12000) ⌝ }
 {
-    SLOTS * fields::read_field(bytes, DAYS_AT, DAYS_BITS) as usize * ledger::PLACES_A_DAY
+    SLOTS * fields::read_field(bytes, DAYS_AT, DAYS_BITS) as usize * limits::PLACES_A_DAY
 }
 
 // The first line: "sheet" where nothing refuses the setup, else "setup" and the number.

@@ -46,7 +46,7 @@ fn put_day(
       let whole = bookOf b (now (held .entry)) (now (side1 .entry)) (now (side2 .entry))
       ⌜ PutsAll (dayLines whole account day) (now (out .entry)) 0 (now (out .exit)) r ⌝ }
 {
-    let mut kwh = [0i64; ledger::PLACES_A_DAY];
+    let mut kwh = [0i64; limits::PLACES_A_DAY];
     position::totals::day_totals(b, held, side1, side2, account, day, &mut kwh);
     put_totals(out, account, day, &kwh)
 }

@@ -1,11 +1,9 @@
 // A turn of the program: the messages at hand, done to the book, and their lines.
 use crate::Turned;
+use limits::numbers;
 ghost use mathlib.Core.Path.{_≡_};
 ghost use Rattle.sheet_turns.specs.Turns.{lastIn, waitsFor, countTold};
 ghost use Rattle.sheet_parts.specs.Promises.{Turns};
-
-// The answer of a message whose bytes end too soon.
-const BYTES_END_TOO_SOON: u8 = 19;
 
 // The last of so many answers; 0 where there is none.
 fn last_of(answers: &[u8], count: usize) -> u8
@@ -24,7 +22,7 @@ fn last_of(answers: &[u8], count: usize) -> u8
 fn is_kept(ended: bool, size: usize, used: usize, last: u8) -> bool
     ensures { λ r. ⌜ r ≡ waitsFor ended size used last ⌝ }
 {
-    !ended & (used < size) & (last == BYTES_END_TOO_SOON)
+    !ended & (used < size) & (last == numbers::BYTES_END_TOO_SOON)
 }
 
 // How many of so many answers are told.

@@ -9,16 +9,14 @@ ghost use Rattle.meaning.specs.Ledgers.{theMark};
 ghost use Rattle.meaning.specs.Soundness.{slotRight, heldRight};
 ghost use Rattle.soundness.specs.Parts.{below, blank, right, other, DayLength, rowRight, daysRight, SlotInside, sideRight};
 
-const MOST_DAYS: usize = 8;
-
 // The periods of the shortest day.
-const LEAST_PERIODS: usize = 46;
+const LEAST_PERIODS: usize = limits::SHORT_DAY as usize;
 
 // The mark, or a volume in range. No branch, so that a scan runs on vectors.
 fn is_right(v: i32) -> bool
     ensures { λ r. ⌜ r ≡ right v ⌝ }
 {
-    (v == ledger::MARK) | ((ledger::LEAST_KWH <= v) & (v <= ledger::MOST_KWH))
+    (v == ledger::MARK) | ((limits::LEAST_KWH <= v) & (v <= limits::MOST_KWH))
 }
 
 // Nothing stands in any place of the part.
@@ -62,7 +60,7 @@ fn row_right(side: &[i32], base: usize, periods: usize, held: bool) -> bool
     requires { ⌜ DayLength periods × (base + 50 ≤ length (now side)) ⌝ }
     ensures { λ r. ⌜ r ≡ rowRight (now (side .entry)) base periods held ⌝ }
 {
-    let end = base + ledger::PLACES_A_DAY;
+    let end = base + limits::PLACES_A_DAY;
     if held & (LEAST_PERIODS <= periods) {
         let last = base + LEAST_PERIODS;
         return all_right(&side[base..end]) & blank_from(&side[last..end], periods - LEAST_PERIODS);
@@ -114,7 +112,7 @@ fn days_right(side: &[i32], slot: usize, held: bool, c: clock::Clock) -> bool
     let mut ok = true;
     let mut d: u8 = 0;
     while d < c.days {
-        let base = (slot * c.days as usize + d as usize) * ledger::PLACES_A_DAY;
+        let base = (slot * c.days as usize + d as usize) * limits::PLACES_A_DAY;
         let periods = clock::periods_of(codes[d as usize]) as usize;
         ok = ok & row_right(side, base, periods, held);
         d += 1;
@@ -127,13 +125,13 @@ pub fn side_right(side: &[i32], held: &[u32], c: clock::Clock) -> bool
     ensures { λ r. ⌜ r ≡ sideRight (now (side .entry)) (now (held .entry)) c ⌝ }
 {
     let days = c.days as usize;
-    if MOST_DAYS < days {
+    if limits::MOST_DAYS_WIDE < days {
         return false;
     }
-    if ledger::MOST_SLOTS < held.len() {
+    if limits::MOST_SLOTS < held.len() {
         return false;
     }
-    if side.len() != held.len() * days * ledger::PLACES_A_DAY {
+    if side.len() != held.len() * days * limits::PLACES_A_DAY {
         return false;
     }
     let mut ok = true;

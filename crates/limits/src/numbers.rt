@@ -1,4 +1,4 @@
-// Document 01, "Answer numbers": those of the calls and questions on a book. Those of bytes and setups stand with their readers.
+// Document 01, "Answer numbers", in its order; 0 is done. docs/ANSWERS.md leads from each to its rule.
 pub const NOT_SOUND: u8 = 1;
 
 pub const EVERY_GATE_CLOSED: u8 = 2;
@@ -32,6 +32,21 @@ pub const NO_SUCH_ACCOUNT: u8 = 15;
 
 // Day number, period or side.
 pub const NO_SUCH_DAY: u8 = 16;
+
+pub const SETUP_WRONG: u8 = 17;
+
+pub const ROW_WRONG: u8 = 18;
+
+pub const BYTES_END_TOO_SOON: u8 = 19;
+
+pub const KIND_THREE: u8 = 20;
+
+pub const TOO_MANY_ENTRIES: u8 = 21;
+
+pub const PADDING_BIT: u8 = 22;
+
+// A value, a kind too, or more than 50 entries to write.
+pub const VALUE_DOES_NOT_FIT: u8 = 23;
 
 pub const NO_ROOM: u8 = 24;
 
