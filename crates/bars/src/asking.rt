@@ -46,7 +46,7 @@ pub(crate) fn asking_refusal(
     if !state::is_sound(b, held, side1, side2) {
         return numbers::NOT_SOUND;
     }
-    if held.len() <= rows::slot_of(held, originator, reference) {
+    if held.len() <= ledger::slots::slot_of(held, originator, reference) {
         return numbers::NOT_HELD;
     }
     if !may_ask(b, originator, account) {

@@ -50,7 +50,7 @@ pub fn mark(
     if !asking::is_period(b, day, period) {
         return refused(numbers::NO_SUCH_DAY);
     }
-    let slot = rows::slot_of(held, originator, reference);
+    let slot = ledger::slots::slot_of(held, originator, reference);
     let place = rows::index_of(b, slot, day, period);
     let v = ledger::volume_at(side1, place);
     let w = ledger::volume_at(side2, place);
@@ -123,7 +123,7 @@ pub fn day_marks(
     if (cases.len() < periods) | (firsts.len() < periods) | (seconds.len() < periods) {
         return numbers::NO_ROOM;
     }
-    let slot = rows::slot_of(held, originator, reference);
+    let slot = ledger::slots::slot_of(held, originator, reference);
     let start = rows::index_of(b, slot, day, 1);
     let row = state::row_of(b, originator as u32);
     write_marks(

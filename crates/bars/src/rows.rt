@@ -14,14 +14,6 @@ ghost use Rattle.meaning.specs.Rows.{rowRules, row};
 ghost use Rattle.book.specs.Structs.{timeIn, bookOf};
 ghost use Rattle.bars.specs.Rows.{rowPlace, tableOf, partAt};
 
-// The slot that holds an identifier; the number of slots where none does.
-pub(crate) fn slot_of(held: &[u32], originator: u8, reference: u16) -> usize
-    ensures { λ r. ⌜ r ≡ slotOf (now (held .entry)) (identifierOf originator reference) ⌝ }
-{
-    let entry = originator as u32 * ledger::REFERENCES + reference as u32 + 1;
-    ledger::slot_with(held, entry)
-}
-
 // The place in the book of one of its days.
 pub(crate) fn day_of(b: book::Book, day: u16) -> u8
     requires { ⌜ hasDay (timeIn b) day ≡ true ⌝ }
@@ -66,7 +58,7 @@ pub fn row_refusal(
     if !state::is_sound(b, held, side1, side2) {
         return numbers::NOT_SOUND;
     }
-    if held.len() <= slot_of(held, originator, reference) {
+    if held.len() <= ledger::slots::slot_of(held, originator, reference) {
         return numbers::NOT_HELD;
     }
     let has_day = clock::has_day(state::clock_of(b), day);
@@ -92,7 +84,7 @@ pub fn row<'a>(
     if row_refusal(b, held, side1, side2, originator, reference, day, side) != 0 {
         return &side1[0..0];
     }
-    let slot = slot_of(held, originator, reference);
+    let slot = ledger::slots::slot_of(held, originator, reference);
     let start = index_of(b, slot, day, 1);
     let end = index_of(b, slot, day, periods_on(b, day)) + 1;
     if side == 1 {
@@ -125,7 +117,7 @@ pub fn row_place(
             length: 0,
         };
     }
-    let slot = slot_of(held, originator, reference);
+    let slot = ledger::slots::slot_of(held, originator, reference);
     let start = index_of(b, slot, day, 1);
     let length = periods_on(b, day) as usize;
     RowPlace {

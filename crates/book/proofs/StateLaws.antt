@@ -2,7 +2,7 @@
 use mathlib.Core.Bool.{true, false, _&&_, true≢false}
 use mathlib.Core.Logic.{_≢_}
 use mathlib.Core.Path.{_≡_, refl, sym, ap, _∙_}
-use Prim.Native.Nat.{ℕ, zero, suc, _-_, _/_, _<_}
+use Prim.Native.Nat.{ℕ, zero, suc, _-_, _<_}
 use native.Mathlib.Omega.{arith}
 use lib.Dec.{ltb}
 use lib.ListN.{length, getD, length-map, List·getD-eq-default}
@@ -72,15 +72,16 @@ module _ (authorisations : ℕ) (row : Authorisation) where
   unfolding originRow
   origin-row-none entry e = rw e
 
-  pub origin-row-own : (entry : ℕ) → entry ≢ 0 → ltb ((entry - 1) / 65536) authorisations && ltb ((entry - 1) / 65536) 64 ≡ true → row ≡ originRow authorisations entry row
-  unfolding originRow originatorOf
-  origin-row-own zero n t = absurd (n refl)
-  origin-row-own (suc i) n t = let e : suc i - 1 ≡ i = omega arith in rw (rw e at t)
+  module _ {k : ℕ} where
+    pub origin-row-own : (entry : ℕ) → entry ≢ 0 → k ≡ originatorOf (entry - 1) → ltb k authorisations && ltb k 64 ≡ true → row ≡ originRow authorisations entry row
+    unfolding originRow
+    origin-row-own zero n q t = absurd (n refl)
+    origin-row-own (suc i) n q t = let e : suc i - 1 ≡ i = omega arith in rw (rw (q, e) at t)
 
-  pub origin-row-past : (entry : ℕ) → entry ≢ 0 → ltb ((entry - 1) / 65536) authorisations && ltb ((entry - 1) / 65536) 64 ≡ false → noAuthorisation ≡ originRow authorisations entry row
-  unfolding originRow originatorOf
-  origin-row-past zero n t = absurd (n refl)
-  origin-row-past (suc i) n t = let e : suc i - 1 ≡ i = omega arith in rw (rw e at t)
+    pub origin-row-past : (entry : ℕ) → entry ≢ 0 → k ≡ originatorOf (entry - 1) → ltb k authorisations && ltb k 64 ≡ false → noAuthorisation ≡ originRow authorisations entry row
+    unfolding originRow
+    origin-row-past zero n q t = absurd (n refl)
+    origin-row-past (suc i) n q t = let e : suc i - 1 ≡ i = omega arith in rw (rw (q, e) at t)
 
 origin-known : (s : Setup) (entry : ℕ) → length (s .rows) ≡ 64
     → rowOf (originRow (s .authorisations) entry (getD (s .rows) (originPlace entry) noAuthorisation)) ≡ originIn (rowsIn s) entry

@@ -51,10 +51,7 @@ pub fn row_of(b: Book, k: u32) -> setups::Authorisation
 pub fn origin_place(entry: u32) -> usize
     ensures { λ r. ⌜ r ≡ originPlace entry ⌝ }
 {
-    if entry == 0 {
-        return 0;
-    }
-    let k = ((entry - 1) / ledger::REFERENCES) as usize;
+    let k = ledger::slots::originator_of(entry) as usize;
     if k < LAST_ROW {
         return k;
     }
@@ -83,7 +80,7 @@ pub fn origin_row(
     if entry == 0 {
         return none;
     }
-    let k = (entry - 1) / ledger::REFERENCES;
+    let k = ledger::slots::originator_of(entry);
     if (k < authorisations as u32) & (k < MOST_ROWS) {
         return row;
     }

@@ -54,7 +54,7 @@ pub(crate) fn judge_notification(
     }
     let kind = kinds::kind_of(b, held, side1, side2, n);
     let row = state::row_of(b, n.authorisation as u32);
-    let slot = checks::slots::slot_for(held, n);
+    let slot = ledger::slots::slot_for(held, n.originator, n.reference);
     let late = checks::notifications::late_refusal(kind, row.amendment, slot, held.len());
     if late != 0 {
         return refused(late);
@@ -96,7 +96,7 @@ pub(crate) fn do_notification(
     let slot = told.slot as usize;
     let c = state::clock_of(b);
     let row = state::row_of(b, n.authorisation as u32);
-    held[slot] = checks::slots::entry_of(n);
+    held[slot] = ledger::slots::entry_of(n.originator, n.reference);
     write_side(side1, kinds::writes_side1(row, n.agent), c, slot as u8, n);
     write_side(side2, kinds::writes_side2(row, n.agent), c, slot as u8, n);
     told

@@ -1,4 +1,3 @@
 -- Laws that the functions' proofs share, and that no two outcomes meet one promise.
 pub mod CheckLaws
-pub mod SlotLaws
 pub mod Unique

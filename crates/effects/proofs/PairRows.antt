@@ -2,8 +2,8 @@
 use mathlib.Core.Bool.{false}
 use mathlib.Core.List.{List}
 use mathlib.Core.Logic.{_≢_}
-use mathlib.Core.Path.{_≡_, refl, sym, ap}
-use Prim.Native.Nat.{ℕ, zero, suc, _-_, _/_}
+use mathlib.Core.Path.{_≡_, refl}
+use Prim.Native.Nat.{ℕ, zero, suc, _-_}
 use native.Mathlib.Omega.{arith}
 use Rattle.meaning.specs.Authorisations as Meaning
 use Rattle.meaning.specs.Ledgers.{originatorOf}
@@ -15,9 +15,7 @@ module _ (rows : List Meaning.Authorisation) (account other : ℕ) where
   unfolding pairIn
   pair-unheld entry e = rw e
 
-  pub pair-held : (entry : ℕ) → entry ≢ 0 → pairIn rows account other entry ≡ Meaning.isPair (Meaning.rowAt rows ((entry - 1) / 65536)) account other
-  unfolding pairIn originatorOf
-  pair-held zero n = absurd (n refl)
-  pair-held (suc i) n =
-      let e : suc i - 1 ≡ i = omega arith in
-      ap (λ (x : ℕ). Meaning.isPair (Meaning.rowAt rows (x / 65536)) account other) (sym e)
+  pub pair-held : (entry : ℕ) {k : ℕ} → entry ≢ 0 → k ≡ originatorOf (entry - 1) → pairIn rows account other entry ≡ Meaning.isPair (Meaning.rowAt rows k) account other
+  unfolding pairIn
+  pair-held zero n q = absurd (n refl)
+  pair-held (suc i) n q = let e : suc i - 1 ≡ i = omega arith in rw (q, e)

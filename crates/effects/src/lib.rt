@@ -126,7 +126,7 @@ fn of_pair(b: Book, entry: u32, account: u8, other: u8) -> bool
     if entry == 0 {
         return false;
     }
-    let row = state::row_of(b, (entry - 1) / ledger::REFERENCES);
+    let row = state::row_of(b, ledger::slots::originator_of(entry));
     ((account == row.account1) & (other == row.account2))
         | ((other == row.account1) & (account == row.account2))
 }

@@ -3,7 +3,7 @@ use mathlib.Core.Bool.{Bool, true, false, not, _&&_}
 use mathlib.Core.List.{List, []}
 use mathlib.Core.Logic.{_≢_}
 use mathlib.Core.Path.{_≡_, refl, ap, _∙_}
-use Prim.Native.Nat.{ℕ, zero, suc, _+_, _-_, _≤_, _<_}
+use Prim.Native.Nat.{ℕ, zero, suc, _+_, _-_, _≤_, _<_, compare·suc-suc}
 use native.Mathlib.Nat.{mul-le-mul-right, suc-mul}
 use native.Mathlib.Omega.{arith}
 use lib.IntN.{ℤ}
@@ -128,12 +128,12 @@ module _ (b : Book) (n : messages.Notification) (row : setups.Authorisation) (e 
 
 -- ---- rows, identifiers and days
 
--- an entry that is not 0 holds the number before it
+-- an entry that is not 0 holds an identifier, and is one more than it
 pub other-held : (s : Setting) (n : Notification contracts) (entry : ℕ) → entry ≢ 0
-    → isOther s n entry ≡ not ((entry - 1) =? n .identifier) && sameAccounts (originIn (s .rows) entry) (under s n)
+    → isOther s n entry ≡ not (entry =? suc (n .identifier)) && sameAccounts (originIn (s .rows) entry) (under s n)
 unfolding isOther
 other-held s n zero h = absurd (h refl)
-other-held s n (suc i) h = let q : suc i - 1 ≡ i = omega arith in rw q
+other-held s n (suc i) h = rw compare·suc-suc
 
 module _ (t : Time) (first d : ℕ) where
   pub from-before : dayNumber t d < first → periodsFrom t first d ≡ 0

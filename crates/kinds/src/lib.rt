@@ -50,10 +50,9 @@ fn is_other(
     if entry == 0 {
         return false;
     }
-    let identifier = entry - 1;
-    let own = n.originator as u32 * ledger::REFERENCES + n.reference as u32;
+    let own = ledger::slots::entry_of(n.originator, n.reference);
     let origin = state::origin_row(b.setup.authorisations, entry, row);
-    (identifier != own) & ((origin.account1 == mine.account1) & (origin.account2 == mine.account2))
+    (entry != own) & ((origin.account1 == mine.account1) & (origin.account2 == mine.account2))
 }
 
 // A slot states something of a day and a period, counted from 0, on a side that is written.
@@ -187,8 +186,7 @@ fn is_replacement(
     requires { ⌜ Fits b (now held) (now side1) (now side2) × (rowOf mine ≡ rowAt (rowsIn (b .setup)) (n .authorisation)) ⌝ }
     ensures { λ r. ⌜ r ≡ isReplacement (bookOf b (now (held .entry)) (now (side1 .entry)) (now (side2 .entry))) (notificationOf n) ⌝ }
 {
-    let entry = n.originator as u32 * ledger::REFERENCES + n.reference as u32 + 1;
-    let slot = ledger::slot_with(held, entry);
+    let slot = ledger::slots::slot_of(held, n.originator, n.reference);
     if held.len() <= slot {
         return false;
     }

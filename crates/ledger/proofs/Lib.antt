@@ -1,2 +1,3 @@
--- That no two outcomes meet one promise.
+-- The slot of an identifier, and that no two outcomes meet one promise.
+pub mod SlotLaws
 pub mod Unique

@@ -1,16 +1,14 @@
-// The lent tables of a book: what a place holds, the slot of an identifier, and runs of places stored (meaning, Ledgers.antt).
+// The lent tables of a book: what a place holds, and runs of places stored (meaning, Ledgers.antt).
+pub mod slots; // slots.rt: the identifier that a slot holds, and the slot of an identifier
+
 ghost use mathlib.Core.Path.{_≡_};
 ghost use Prim.Native.Nat.{_-_, min};
 ghost use lib.ListN.{getD, replicate};
 ghost use lib.Seq.{sets};
-ghost use Rattle.words.specs.Lists.{find};
 ghost use Rattle.meaning.specs.Ledgers.{contracts, stands, theMark};
 
 // "the mark -2,147,483,648 means nothing stands"
 pub const MARK: i32 = -2147483648;
-
-// An identifier is originator * 65,536 + reference.
-pub const REFERENCES: u32 = 65536;
 
 // A place states something when it does not hold the mark.
 pub fn states(v: i32) -> bool
@@ -27,20 +25,6 @@ pub fn volume_at(side: &[i32], place: usize) -> i32
         return side[place];
     }
     MARK
-}
-
-// The first slot whose entry is this one; the number of slots where none is.
-pub fn slot_with(held: &[u32], entry: u32) -> usize
-    ensures { λ r. ⌜ r ≡ find entry (now (held .entry)) ⌝ }
-{
-    let mut k: usize = 0;
-    while k < held.len() {
-        if held[k] == entry {
-            return k;
-        }
-        k += 1;
-    }
-    k
 }
 
 // How many of `count` places from `at` on are inside a table of this length.

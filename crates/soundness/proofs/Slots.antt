@@ -3,7 +3,7 @@ use mathlib.Core.Bool.{Bool, true, not, _&&_, false≢true}
 use mathlib.Core.List.{List}
 use mathlib.Core.Logic.{_≢_}
 use mathlib.Core.Path.{_≡_, refl, sym, ap, _∙_}
-use Prim.Native.Nat.{ℕ, zero, suc, _+_, _-_, _/_, _<_}
+use Prim.Native.Nat.{ℕ, zero, suc, _+_, _-_, _<_}
 use native.Mathlib.Nat.{zero-add}
 use native.Mathlib.Omega.{arith}
 use lib.Dec.{ltb, eqb}
@@ -23,13 +23,11 @@ pub slot-unheld : (known : ℕ → Bool) (held : List ℕ) (k entry : ℕ) → e
 unfolding slotRight
 slot-unheld known held k entry e = rw e
 
-pub slot-held : (known : ℕ) (held : List ℕ) (k entry : ℕ) → entry ≢ 0
-    → slotRight (below known) held k entry ≡ ltb ((entry - 1) / 65536) known && eqb (find entry held) k
-unfolding slotRight originatorOf
-slot-held known held k zero n = absurd (n refl)
-slot-held known held k (suc i) n =
-    let e : suc i - 1 ≡ i = omega arith in
-    ap (λ (x : ℕ). ltb (x / 65536) known && eqb (find (suc i) held) k) (sym e)
+pub slot-held : (known : ℕ) (held : List ℕ) (k entry : ℕ) {originator : ℕ} → entry ≢ 0 → originator ≡ originatorOf (entry - 1)
+    → slotRight (below known) held k entry ≡ ltb originator known && eqb (find entry held) k
+unfolding slotRight
+slot-held known held k zero n q = absurd (n refl)
+slot-held known held k (suc i) n q = let e : suc i - 1 ≡ i = omega arith in rw (q, e)
 
 -- a slot's identifier is found first in this slot exactly where no slot before holds it
 pub found-here : (held : List ℕ) (k entry : ℕ) → k < length held → getD held k 0 ≡ entry

@@ -88,7 +88,7 @@ fn slot_right(held: &[u32], known: usize, k: usize) -> bool
     if entry == 0 {
         return true;
     }
-    let originator = ((entry - 1) / ledger::REFERENCES) as usize;
+    let originator = ledger::slots::originator_of(entry) as usize;
     (originator < known) & none_holds(&held[0..k], entry)
 }
 

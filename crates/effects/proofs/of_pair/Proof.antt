@@ -9,11 +9,12 @@ use Rattle.effects.proofs.of_pair.Tie as tie
 
 returns : tie.Need-returns
 returns c =
-    let a = c .before .args in
+    let start : tie.Start = search in
+    let a = start .args in
     sym (pair-unheld (rowsOf (a .b .setup .authorisations) (a .b .setup .rows)) (a .account) (a .other) (a .entry) (c .if1 .taken))
 
-sub-row-of : tie.Need-sub-row-of
-sub-row-of c = search needs
+originator-of-requires : tie.Need-originator-of-requires
+originator-of-requires c κs = search needs
 
 row-of-requires : tie.Need-row-of-requires
 row-of-requires c κs = search needs
@@ -21,10 +22,13 @@ row-of-requires c κs = search needs
 returns-2 : tie.Need-returns-2
 unfolding isPair
 returns-2 c =
-    let p = c .before .before .before .before in
-    let a = p .before .before .args in
+    let start : tie.Start = search in
+    let a = start .args in
+    let held : tie.Else1 = search in
+    let origin : tie.After-originator-of = search in
+    let read : tie.After-row-of = search in
     let rows = rowsOf (a .b .setup .authorisations) (a .b .setup .rows) in
-    sym (pair-held rows (a .account) (a .other) (a .entry) (p .before .if1 .left) ∙ ap (λ (r : Authorisation). isPair r (a .account) (a .other)) (sym (p .row-of .ensures)))
+    sym (pair-held rows (a .account) (a .other) (a .entry) (held .if1 .left) (origin .originator-of .ensures) ∙ ap (λ (r : Authorisation). isPair r (a .account) (a .other)) (sym (read .row-of .ensures)))
 
 pub of-pair-spec : {M : Type 1} → statement M
-of-pair-spec = tie.close (tie.spec returns sub-row-of row-of-requires returns-2)
+of-pair-spec = tie.close (tie.spec returns originator-of-requires row-of-requires returns-2)

@@ -21,11 +21,11 @@ returns c =
     let held = now (a .held) in
     sym (slot-unheld (below (a .known)) held (a .k) (getD held (a .k) 0) (c .if1 .taken))
 
-sub-originator : tie.Need-sub-originator
-sub-originator c = search needs
+originator-of-requires : tie.Need-originator-of-requires
+originator-of-requires c κs = search needs
 
 cast-originator : tie.Need-cast-originator
-cast-originator c = omega (arith, c .before .shared-slice-known2 .given (c .before .before .before .args .k))
+cast-originator c = search needs
 
 sub-none-holds : tie.Need-sub-none-holds
 sub-none-holds c = search needs
@@ -41,12 +41,15 @@ none-holds-requires c κs = search needs
 
 returns-2 : tie.Need-returns-2
 returns-2 c =
-    let a = c .before .before .before .before .before .args in
+    let start : tie.Start = search in
+    let taken : tie.Else1 = search in
+    let origin : tie.After-originator-of = search in
+    let a = start .args in
     let held = now (a .held) in
     let entry = getD held (a .k) 0 in
-    let inside = c .before .before .before .before .before .pre in
+    let inside = start .pre in
     let before = c .none-holds .ensures ∙ part-before held (a .k) entry inside ∙ sym (found-here held (a .k) entry inside refl) in
-    rw before (sym (slot-held (a .known) held (a .k) entry (c .before .before .if1 .left)))
+    rw before (sym (slot-held (a .known) held (a .k) entry (taken .if1 .left) (origin .originator-of .ensures)))
 
 pub slot-right-spec : {M : Type 1} → statement M
 slot-right-spec =
@@ -55,7 +58,7 @@ slot-right-spec =
     mul-entry
     shared-slice-read-entry
     returns
-    sub-originator
+    originator-of-requires
     cast-originator
     sub-none-holds
     part-none-holds-start

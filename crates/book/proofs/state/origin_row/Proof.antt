@@ -6,23 +6,26 @@ use Rattle.book.proofs.state.origin_row.Tie as tie
 
 returns : tie.Need-returns
 returns c =
-    let a = c .before .args in
+    let start : tie.Start = search in
+    let a = start .args in
     origin-row-none (a .authorisations) (a .row) (a .entry) (c .if1 .taken)
 
-sub-k : tie.Need-sub-k
-sub-k c = search needs
+originator-of-requires : tie.Need-originator-of-requires
+originator-of-requires c κs = search needs
 
 returns-2 : tie.Need-returns-2
 returns-2 c =
-    let p = c .before in
-    let a = p .before .args in
-    origin-row-own (a .authorisations) (a .row) (a .entry) (p .if1 .left) (c .if2 .taken)
+    let start : tie.Start = search in
+    let a = start .args in
+    let held : tie.Else1 = search in
+    origin-row-own (a .authorisations) (a .row) (a .entry) (held .if1 .left) (c .before .originator-of .ensures) (c .if2 .taken)
 
 returns-3 : tie.Need-returns-3
 returns-3 c =
-    let p = c .before in
-    let a = p .before .args in
-    origin-row-past (a .authorisations) (a .row) (a .entry) (p .if1 .left) (c .if2 .left)
+    let start : tie.Start = search in
+    let a = start .args in
+    let held : tie.Else1 = search in
+    origin-row-past (a .authorisations) (a .row) (a .entry) (held .if1 .left) (c .before .originator-of .ensures) (c .if2 .left)
 
 pub origin-row-spec : {M : Type 1} → statement M
-origin-row-spec = tie.close (tie.spec returns sub-k returns-2 returns-3)
+origin-row-spec = tie.close (tie.spec returns originator-of-requires returns-2 returns-3)

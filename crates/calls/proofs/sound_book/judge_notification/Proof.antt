@@ -7,7 +7,7 @@ use native.Mathlib.Omega.{arith}
 use denote.Ref.{now}
 use Rattle.words.specs.Rules.{answer}
 use Rattle.meaning.specs.Authorisations.{Authorisation}
-use Rattle.meaning.specs.Ledgers.{contracts}
+use Rattle.meaning.specs.Ledgers.{contracts, slotFor}
 use Rattle.meaning.specs.Messages as Messages
 use Rattle.meaning.specs.Books as Meaning
 use Rattle.meaning.specs.Soundness.{sound}
@@ -53,11 +53,15 @@ module _ (c : tie.After-late-refusal) where
   unfolding notificationOf
   type = ap (λ (row : Authorisation). row .type) (c .before .before .row-of .ensures)
 
+  slot : c .before .slot-for .result ≡ slotFor (now (start checked .args .held)) (note (start checked) .identifier)
+  unfolding notificationOf
+  slot = c .before .slot-for .ensures
+
   late : answer (notificationRules (whole (start checked)) (note (start checked))) ≡ c .late-refusal .result
   late =
       let s = start checked in
       late-answer (whole s) (note s) (is-sound checked) (sym (checks checked) ∙ c .before .before .before .before .before .if1 .left)
-      ∙ sym (c .late-refusal .ensures ∙ late-same (whole s) (note s) (c .before .before .before .before .kind-of .result) (c .before .before .row-of .result .amendment) (c .before .slot-for .result) kind type (c .before .slot-for .ensures))
+      ∙ sym (c .late-refusal .ensures ∙ late-same (whole s) (note s) (c .before .before .before .before .kind-of .result) (c .before .before .row-of .result .amendment) (c .before .slot-for .result) kind type slot)
 
 checks-refusal-requires : tie.Need-checks-refusal-requires
 checks-refusal-requires c κs = search needs
@@ -104,13 +108,13 @@ cast-t14 c =
     let a = s .args in
     let inside = accepted-slot (whole s) (note s) (late p ∙ c .if2 .left) in
     let few = sound-fits (a .b) (now (a .held)) (now (a .side1)) (now (a .side2)) (is-sound (checked p)) .slots-few in
-    omega (arith, inside, few, p .before .slot-for .ensures)
+    omega (arith, inside, few, slot p)
 
 returns-3 : tie.Need-returns-3
 returns-3 c =
     let p = c .before in
     let s = start (checked p) in
-    ap₂ (λ (k slot : ℕ). record { answer = 0; kind = k; slot = slot }) (kind p) (p .before .slot-for .ensures)
+    ap₂ (λ (k slot : ℕ). record { answer = 0; kind = k; slot = slot }) (kind p) (slot p)
     ∙ ap notifiedOf (sym (notified-done (whole s) (note s) (late p ∙ c .if2 .left)))
 
 pub judge-notification-spec : {M : Type 1} → statement M

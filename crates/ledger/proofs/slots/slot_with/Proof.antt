@@ -8,8 +8,8 @@ use denote.Ref.{now}
 use lib.ListN.{length, getD}
 use Rattle.laws.proofs.Cases.{by-eq}
 use Rattle.laws.proofs.Lists.{find-is}
-use Rattle.ledger.proofs.slot_with.Statement.{statement}
-use Rattle.ledger.proofs.slot_with.Tie as tie
+use Rattle.ledger.proofs.slots.slot_with.Statement.{statement}
+use Rattle.ledger.proofs.slots.slot_with.Tie as tie
 
 abbrev Inv-loop : tie.InvT-loop
 Inv-loop held entry k₀ k = (k ≤ length held) × ((j : ℕ) → j < k → getD held j 0 ≢ entry)
