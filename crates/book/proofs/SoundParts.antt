@@ -19,7 +19,7 @@ use Rattle.meaning.proofs.SetupRules.{Opens, opens}
 use Rattle.setups.specs.Structs.{codesOf, rowsOf, setupOf}
 use Rattle.clock.specs.declared.Clock.{Clock}
 use Rattle.clock.specs.Structs.{timeOf}
-use Rattle.soundness.specs.Parts.{below, sideRight}
+use Rattle.ledger_soundness.specs.Parts.{below, sideRight}
 use Rattle.book.specs.Structs.{timeIn, bookOf}
 use Rattle.book.specs.declared.Book.{Book}
 

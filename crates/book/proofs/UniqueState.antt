@@ -16,7 +16,7 @@ use Rattle.book.proofs.state.clock_of.Reads as clock-of
 use Rattle.book.proofs.state.row_of.Reads as row-of
 use Rattle.book.proofs.state.origin_place.Reads as origin-place
 use Rattle.book.proofs.state.origin_row.Reads as origin-row
-use Rattle.book.proofs.state.is_sound.Reads as is-sound
+use Rattle.book.proofs.soundness.is_sound.Reads as is-sound
 use Rattle.book.proofs.opening.opening_refusal.Reads as opening-refusal
 use Rattle.book.proofs.opening.open.Reads as opening
 

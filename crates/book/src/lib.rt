@@ -1,6 +1,7 @@
 // A book by value beside its lent tables: `held`, an entry a slot (0 unheld, else one more than originator * 65,536 + reference), and a table
 // of volumes for each side, slots times days times 50.
-pub mod state; // state.rt: the clock and the authorisations of a book, and its soundness
+pub mod state; // state.rt: the clock and the authorisations of a book
+pub mod soundness; // soundness.rt: whether a book and its lent tables are sound
 pub mod opening; // opening.rt: a setup and three lent tables to a book
 
 // The setup, and the number of gates closed.

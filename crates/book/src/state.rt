@@ -1,11 +1,9 @@
-// The clock and the authorisations of a book, and "A sound book" (1), the test that every call and every question makes first.
+// The clock and the authorisations of a book.
 use crate::Book;
-use crate::opening;
 ghost use mathlib.Core.Path.{_≡_};
-ghost use Rattle.meaning.specs.Soundness.{sound};
 ghost use Rattle.meaning.specs.Authorisations.{rowAt};
 ghost use Rattle.setups.specs.Structs.{rowOf};
-ghost use Rattle.book.specs.Structs.{clockIn, rowsIn, originPlace, originRow, bookOf};
+ghost use Rattle.book.specs.Structs.{clockIn, rowsIn, originPlace, originRow};
 
 const MOST_ROWS: u32 = limits::MOST_AUTHORISATIONS as u32;
 
@@ -85,21 +83,4 @@ pub fn origin_row(
         return row;
     }
     none
-}
-
-// "setup rules hold; gates closed do not exceed the periods; held identifiers differ and name known originators; each volume is in range or the
-// mark; unheld slots and places past a day's length hold the mark"
-pub fn is_sound(b: Book, held: &[u32], side1: &[i32], side2: &[i32]) -> bool
-    ensures { λ r. ⌜ r ≡ sound (bookOf b (now (held .entry)) (now (side1 .entry)) (now (side2 .entry))) ⌝ }
-{
-    let s = b.setup;
-    if opening::opening_refusal(s, held.len(), side1.len(), side2.len()) != 0 {
-        return false;
-    }
-    let c = clock_of(b);
-    let gates = clock::gates_before(c, s.days);
-    (b.closed <= gates)
-        & soundness::held_right(held, s.authorisations as usize)
-        & soundness::side_right(side1, held, c)
-        & soundness::side_right(side2, held, c)
 }

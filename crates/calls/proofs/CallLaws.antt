@@ -25,9 +25,9 @@ use Rattle.laws.proofs.Cases.{on}
 use Rattle.laws.proofs.RuleByRule.{passes}
 use Rattle.messages.specs.Structs.{nullificationOf}
 use Rattle.messages.specs.declared.Nullification.{Nullification}
-use Rattle.effects.specs.Effects.{pairBlanked}
-use Rattle.effects.proofs.EffectLaws.{blanked-few}
-use Rattle.checks.specs.Checks.{pairCheckRules}
+use Rattle.message_effects.specs.Effects.{pairBlanked}
+use Rattle.message_effects.proofs.EffectLaws.{blanked-few}
+use Rattle.message_checks.specs.Checks.{pairCheckRules}
 use Rattle.calls.specs.Answers.{afterCall}
 use Rattle.book.specs.Structs.{settingIn, bookOf}
 use Rattle.book.specs.declared.Book.{Book}

@@ -24,16 +24,16 @@ use Rattle.meaning.specs.Calls.{Call, message, rulesFor, refusal, act}
 use Rattle.meaning.proofs.SetupRules.{opens}
 use Rattle.meaning.proofs.Sound.{parts}
 use Rattle.calls.specs.Answers.{afterCall}
-use Rattle.checks.specs.Checks.{checkRules, lateRules}
-use Rattle.effects.specs.Effects.{slotRule}
-use Rattle.kinds.specs.Kinds.{Fits, kindAnswer}
-use Rattle.kinds.proofs.KindLaws.{kind-fitting}
+use Rattle.message_checks.specs.Checks.{checkRules, lateRules}
+use Rattle.message_effects.specs.Effects.{slotRule}
+use Rattle.notification_kinds.specs.Kinds.{Fits, kindAnswer}
+use Rattle.notification_kinds.proofs.KindLaws.{kind-fitting}
 use Rattle.book.specs.Structs.{bookOf}
 use Rattle.book.specs.declared.Book.{Book}
 use Rattle.laws.proofs.RuleByRule.{passes}
 use Rattle.book.proofs.SoundParts.{codes-count}
 use Rattle.calls.proofs.CallLaws.{call-accepted}
-use Rattle.effects.proofs.EffectLaws.{volumesGiven, accepted-side, unwritten-side}
+use Rattle.message_effects.proofs.EffectLaws.{volumesGiven, accepted-side, unwritten-side}
 
 -- ---- its slot
 

@@ -1,6 +1,7 @@
 // "One call closes the next gate."
 use crate::Gated;
 use book::Book;
+use book::soundness;
 use book::state;
 use limits::numbers;
 ghost use mathlib.Core.Path.{_≡_};
@@ -35,7 +36,7 @@ pub(crate) fn close_next(b: Book) -> Gated
 pub fn close_gate(b: Book, held: &[u32], side1: &[i32], side2: &[i32]) -> Gated
     ensures { λ r. ⌜ r ≡ gated b (answer (gateRules (bookOf b (now (held .entry)) (now (side1 .entry)) (now (side2 .entry))))) ⌝ }
 {
-    if !state::is_sound(b, held, side1, side2) {
+    if !soundness::is_sound(b, held, side1, side2) {
         return Gated {
             answer: numbers::NOT_SOUND,
             book: b,

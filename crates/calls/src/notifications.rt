@@ -2,7 +2,7 @@
 use crate::Notified;
 use crate::sound_book;
 use book::Book;
-use book::state;
+use book::soundness;
 use limits::numbers;
 ghost use mathlib.Core.Path.{_≡_};
 ghost use Rattle.meaning.specs.Messages.{notification};
@@ -22,7 +22,7 @@ pub fn notification_answer(
 ) -> Notified
     ensures { λ r. ⌜ r ≡ notifiedOf (notified (bookOf b (now (held .entry)) (now (side1 .entry)) (now (side2 .entry))) (notificationOf n)) ⌝ }
 {
-    if !state::is_sound(b, held, side1, side2) {
+    if !soundness::is_sound(b, held, side1, side2) {
         return sound_book::refused(numbers::NOT_SOUND);
     }
     sound_book::judge_notification(b, n, held, side1, side2)
@@ -41,7 +41,7 @@ pub fn notify(
       let call = message (notification (notificationOf n))
       ⌜ (r ≡ notifiedOf (notified before (notificationOf n))) × (now (held .exit) ≡ afterCall before call .ledger .held) × (now (side1 .exit) ≡ afterCall before call .ledger .side1) × (now (side2 .exit) ≡ afterCall before call .ledger .side2) ⌝ }
 {
-    if !state::is_sound(b, held, side1, side2) {
+    if !soundness::is_sound(b, held, side1, side2) {
         return sound_book::refused(numbers::NOT_SOUND);
     }
     sound_book::do_notification(b, n, held, side1, side2)

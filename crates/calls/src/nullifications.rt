@@ -1,7 +1,7 @@
 // A nullification blanks both sides of each identifier between its two accounts (document 01, "What a notification does"; refusals 1, 2, 15, 9).
 use crate::sound_book;
 use book::Book;
-use book::state;
+use book::soundness;
 use limits::numbers;
 ghost use mathlib.Core.Path.{_≡_};
 ghost use Rattle.words.specs.Rules.{answer};
@@ -21,10 +21,10 @@ pub fn nullification_refusal(
 ) -> u8
     ensures { λ r. ⌜ r ≡ answer (nullificationRules (bookOf b (now (held .entry)) (now (side1 .entry)) (now (side2 .entry))) (nullificationOf x)) ⌝ }
 {
-    if !state::is_sound(b, held, side1, side2) {
+    if !soundness::is_sound(b, held, side1, side2) {
         return numbers::NOT_SOUND;
     }
-    checks::nullifications::judge_nullification(b, x)
+    message_checks::nullifications::judge_nullification(b, x)
 }
 
 // The answer. Both tables with the mark at the open places from its first day on, in each slot whose identifier is between the two accounts; a
@@ -41,7 +41,7 @@ pub fn nullify(
       let call = message (nullification (nullificationOf x))
       ⌜ (r ≡ refusal before call) × (now (side1 .exit) ≡ afterCall before call .ledger .side1) × (now (side2 .exit) ≡ afterCall before call .ledger .side2) ⌝ }
 {
-    if !state::is_sound(b, held, side1, side2) {
+    if !soundness::is_sound(b, held, side1, side2) {
         return numbers::NOT_SOUND;
     }
     sound_book::do_nullification(b, x, held, side1, side2)

@@ -3,7 +3,7 @@ use crate::Applied;
 use crate::AppliedAll;
 use crate::sound_book;
 use book::Book;
-use book::state;
+use book::soundness;
 use limits::numbers;
 ghost use mathlib.Core.Bool.{true};
 ghost use mathlib.Core.Path.{_≡_};
@@ -72,7 +72,7 @@ pub fn apply(
       let whole = applied (bookOf b (now (held .entry)) (now (side1 .entry)) (now (side2 .entry))) (now (bytes .entry))
       ⌜ (r ≡ appliedOf b whole) × (now (held .exit) ≡ whole .book .ledger .held) × (now (side1 .exit) ≡ whole .book .ledger .side1) × (now (side2 .exit) ≡ whole .book .ledger .side2) ⌝ }
 {
-    let known = state::is_sound(b, held, side1, side2);
+    let known = soundness::is_sound(b, held, side1, side2);
     if !known {
         return not_applied(b, numbers::NOT_SOUND);
     }
@@ -150,7 +150,7 @@ pub fn apply_all(
       let whole = runOn (length (now (answers .entry))) before (now (bytes .entry))
       ⌜ (r ≡ ranOf b (runAnswer before) whole) × (now (held .exit) ≡ whole .book .ledger .held) × (now (side1 .exit) ≡ whole .book .ledger .side1) × (now (side2 .exit) ≡ whole .book .ledger .side2) × (now (answers .exit) ≡ sets (now (answers .entry)) 0 (whole .answers)) ⌝ }
 {
-    if !state::is_sound(b, held, side1, side2) {
+    if !soundness::is_sound(b, held, side1, side2) {
         return AppliedAll {
             answer: numbers::NOT_SOUND,
             done: 0,

@@ -4,6 +4,7 @@ use crate::gates;
 use book::Book;
 use book::state;
 use messages::layouts;
+use setups::authorisations;
 ghost use mathlib.Core.Bool.{true, cond};
 ghost use mathlib.Core.Path.{_≡_};
 ghost use Prim.Native.Nat.{ℕ, suc};
@@ -17,7 +18,7 @@ ghost use Rattle.clock.specs.Structs.{timeOf};
 ghost use Rattle.messages.specs.Structs.{notificationOf, nullificationOf, messageOf};
 ghost use Rattle.book.specs.Structs.{bookOf};
 ghost use Rattle.calls.specs.Answers.{afterCall, afterMessage, notifiedOf, messageDone};
-ghost use Rattle.effects.specs.Effects.{slotRule};
+ghost use Rattle.message_effects.specs.Effects.{slotRule};
 
 // What a message did. With a refusal kind and slot are 0, and the book is as it came.
 pub(crate) struct Done {
@@ -48,14 +49,14 @@ pub(crate) fn judge_notification(
     requires { ⌜ sound (bookOf b (now held) (now side1) (now side2)) ≡ true ⌝ }
     ensures { λ r. ⌜ r ≡ notifiedOf (notified (bookOf b (now (held .entry)) (now (side1 .entry)) (now (side2 .entry))) (notificationOf n)) ⌝ }
 {
-    let early = checks::notifications::checks_refusal(b, n);
+    let early = message_checks::notifications::checks_refusal(b, n);
     if early != 0 {
         return refused(early);
     }
-    let kind = kinds::kind_of(b, held, side1, side2, n);
+    let kind = notification_kinds::kind_of(b, held, side1, side2, n);
     let row = state::row_of(b, n.authorisation as u32);
     let slot = ledger::slots::slot_for(held, n.originator, n.reference);
-    let late = checks::notifications::late_refusal(kind, row.amendment, slot, held.len());
+    let late = message_checks::notifications::late_refusal(kind, row.amendment, slot, held.len());
     if late != 0 {
         return refused(late);
     }
@@ -71,7 +72,7 @@ fn write_side(side: &mut [i32], writes: bool, c: clock::Clock, slot: u8, n: mess
     ensures { λ r. ⌜ now (side .exit) ≡ cond writes (mapAt (slotRule (timeOf c) slot (n .first) (suc (n .last)) (build 50 (λ (p : ℕ). volume (notificationOf n .entries) (suc p)))) (now (side .entry))) (now (side .entry)) ⌝ }
 {
     if writes {
-        effects::write_slot(side, c, slot, n.first, n.last, effects::volumes_of(n));
+        message_effects::write_slot(side, c, slot, n.first, n.last, message_effects::volumes_of(n));
     }
 }
 
@@ -97,8 +98,8 @@ pub(crate) fn do_notification(
     let c = state::clock_of(b);
     let row = state::row_of(b, n.authorisation as u32);
     held[slot] = ledger::slots::entry_of(n.originator, n.reference);
-    write_side(side1, kinds::writes_side1(row, n.agent), c, slot as u8, n);
-    write_side(side2, kinds::writes_side2(row, n.agent), c, slot as u8, n);
+    write_side(side1, authorisations::writes_side1(row, n.agent), c, slot as u8, n);
+    write_side(side2, authorisations::writes_side2(row, n.agent), c, slot as u8, n);
     told
 }
 
@@ -116,12 +117,12 @@ pub(crate) fn do_nullification(
       let call = message (nullification (nullificationOf x))
       ⌜ (r ≡ refusal before call) × (now (side1 .exit) ≡ afterCall before call .ledger .side1) × (now (side2 .exit) ≡ afterCall before call .ledger .side2) ⌝ }
 {
-    let answer = checks::nullifications::judge_nullification(b, x);
+    let answer = message_checks::nullifications::judge_nullification(b, x);
     if answer != 0 {
         return answer;
     }
-    effects::blank_pair(side1, held, b, x.account, x.other, x.first);
-    effects::blank_pair(side2, held, b, x.account, x.other, x.first);
+    message_effects::blank_pair(side1, held, b, x.account, x.other, x.first);
+    message_effects::blank_pair(side2, held, b, x.account, x.other, x.first);
     0
 }
 

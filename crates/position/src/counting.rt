@@ -47,7 +47,7 @@ pub(crate) fn day_refusal(
 ) -> u8
     ensures { λ r. ⌜ r ≡ answer (figuresRules (bookOf b (now (held .entry)) (now (side1 .entry)) (now (side2 .entry))) account day) ⌝ }
 {
-    if !book::state::is_sound(b, held, side1, side2) {
+    if !book::soundness::is_sound(b, held, side1, side2) {
         return limits::numbers::NOT_SOUND;
     }
     let s = b.setup;

@@ -1,6 +1,8 @@
--- No two different results keep one promise of the rules.
+-- No two different results keep one promise of the rules, or of who writes which side.
 use Rattle.laws.proofs.Cases.{one-outcome}
 use Rattle.laws.proofs.Promises.{OneResult}
+use Rattle.setups.proofs.authorisations.writes_side1.Reads as writes-side1
+use Rattle.setups.proofs.authorisations.writes_side2.Reads as writes-side2
 use Rattle.setups.proofs.rules.counts_wrong.Reads as counts-wrong
 use Rattle.setups.proofs.rules.last_day_wrong.Reads as last-day-wrong
 use Rattle.setups.proofs.rules.lent_wrong.Reads as lent-wrong
@@ -9,6 +11,12 @@ use Rattle.setups.proofs.rules.amendment_refusal.Reads as amendment-ref
 use Rattle.setups.proofs.rules.code_wrong.Reads as code-wrong
 use Rattle.setups.proofs.rules.row_wrong.Reads as row-wrong
 use Rattle.setups.proofs.rules.some_row_wrong.Reads as some-row-wrong
+
+pub unique-writes-side1 : OneResult writes-side1.Post
+unique-writes-side1 κs a r r′ s s′ = one-outcome
+
+pub unique-writes-side2 : OneResult writes-side2.Post
+unique-writes-side2 κs a r r′ s s′ = one-outcome
 
 pub unique-counts-wrong : OneResult counts-wrong.Post
 unique-counts-wrong κs a r r′ s s′ = one-outcome

@@ -1,4 +1,5 @@
 // Setups by value, their rules, and how long they are when packed (meaning, Books.antt and PackedSetups.antt).
+pub mod authorisations; // authorisations.rt: who writes which side
 pub mod rules; // rules.rt: what can be wrong with a setup
 pub mod layouts; // layouts.rt: the bits and bytes that it takes
 

@@ -5,8 +5,8 @@ use lib.Ieee.{Float}
 use Rattle.meaning.specs.PackedMessages.{Packed, Reading}
 use Rattle.messages.specs.Structs.{messageFor}
 use Rattle.message_reading.specs.Structs.{messageRead}
-use Rattle.shown.specs.Figures.{caseOf, firstOf, secondOf}
-use Rattle.bars.specs.declared.Marked.{Marked}
+use Rattle.bar.specs.Figures.{caseOf, firstOf, secondOf}
+use Rattle.marks.specs.declared.Marked.{Marked}
 use Rattle.viewer.specs.Numbers.{markNumbers}
 use Rattle.viewer.specs.declared.MarkNumbers.{MarkNumbers}
 

@@ -16,10 +16,10 @@ use Rattle.meaning.specs.Books.{Book}
 use Rattle.meaning.specs.Soundness.{sound}
 use Rattle.meaning.specs.Bars.{markRules, seenBar, mark}
 use Rattle.meaning.specs.Rows.{rowRules}
-use Rattle.shown.specs.Figures.{caseOf, firstOf, secondOf}
-use Rattle.bars.specs.Marks.{refusedMark, marked, dayMarkRules, dayMarked}
-use Rattle.bars.specs.Rows.{rowPlace}
-use Rattle.bars.specs.declared.RowPlace.{RowPlace}
+use Rattle.bar.specs.Figures.{caseOf, firstOf, secondOf}
+use Rattle.marks.specs.Marks.{refusedMark, marked, dayMarkRules, dayMarked}
+use Rattle.marks.specs.Rows.{rowPlace}
+use Rattle.marks.specs.declared.RowPlace.{RowPlace}
 use Rattle.viewer.specs.Asked.{named}
 use Rattle.viewer.proofs.OutOfBook.{no-account, no-day, no-period, no-period-of-day, no-side, none-held}
 use Rattle.viewer.proofs.Narrowed.{narrowed, narrowed-identifier}

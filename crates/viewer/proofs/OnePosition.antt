@@ -14,9 +14,9 @@ use Rattle.book.specs.declared.Book.{Book}
 use Rattle.book.specs.Structs.{bookOf}
 use Rattle.position.specs.Totals.{totalled}
 use Rattle.position.specs.declared.Totalled.{Totalled}
-use Rattle.shown.specs.Figures.{barFor}
-use Rattle.bars.specs.Marks.{marked}
-use Rattle.bars.specs.declared.Marked.{Marked}
+use Rattle.bar.specs.Figures.{barFor}
+use Rattle.marks.specs.Marks.{marked}
+use Rattle.marks.specs.declared.Marked.{Marked}
 
 module _ (b : Book) (held : List ℕ) (side1 side2 : List ℤ) (account D period : ℕ) where
   abbrev whole : Meaning.Book contracts

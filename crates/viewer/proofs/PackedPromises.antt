@@ -17,7 +17,7 @@ use Rattle.setups.specs.Structs.{setupOf}
 use Rattle.setups.specs.declared.Setup.{Setup}
 use Rattle.setup_writing.specs.Structs.{setupWritten}
 use Rattle.setup_writing.specs.declared.SetupWritten.{SetupWritten}
-use Rattle.questions.specs.Questions.{fieldIn}
+use Rattle.message_fields.specs.Questions.{fieldIn}
 
 abbrev pub MessageRefusal : List ℕ → ℕ → Type 0
 MessageRefusal bytes r = r ≡ answer (readingRules bytes)

@@ -20,11 +20,11 @@ use Rattle.position.specs.Totals.{totalled, figured}
 use Rattle.position.specs.declared.Totalled.{Totalled}
 use Rattle.position.specs.declared.Figured.{Figured}
 use Rattle.position.proofs.Promises.{DayTotalled}
-use Rattle.shown.specs.Figures.{caseOf, firstOf, secondOf}
-use Rattle.bars.specs.Marks.{marked, dayMarkRules, dayMarked}
-use Rattle.bars.specs.declared.Marked.{Marked}
-use Rattle.bars.specs.declared.RowPlace.{RowPlace}
-use Rattle.bars.proofs.PlaceLaws.{thePlace, Placed, placed}
+use Rattle.bar.specs.Figures.{caseOf, firstOf, secondOf}
+use Rattle.marks.specs.Marks.{marked, dayMarkRules, dayMarked}
+use Rattle.marks.specs.declared.Marked.{Marked}
+use Rattle.marks.specs.declared.RowPlace.{RowPlace}
+use Rattle.marks.proofs.PlaceLaws.{thePlace, Placed, placed}
 use Rattle.viewer.specs.Asked.{named}
 use Rattle.viewer.specs.Numbers.{markNumbers}
 use Rattle.viewer.specs.declared.MarkNumbers.{MarkNumbers}

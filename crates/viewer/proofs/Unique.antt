@@ -15,8 +15,8 @@ use Rattle.book.specs.declared.Book.{Book}
 use Rattle.position.specs.declared.Totalled.{Totalled}
 use Rattle.position.specs.declared.Figured.{Figured}
 use Rattle.position.proofs.Promises.{DayTotalled}
-use Rattle.bars.specs.declared.RowPlace.{RowPlace}
-use Rattle.bars.proofs.PlaceLaws.{Placed}
+use Rattle.marks.specs.declared.RowPlace.{RowPlace}
+use Rattle.marks.proofs.PlaceLaws.{Placed}
 use Rattle.viewer.specs.Asked.{named}
 use Rattle.viewer.specs.declared.MarkNumbers.{MarkNumbers}
 use Rattle.viewer.proofs.PackedPromises.{MessageRefusal, MessageLength, MessageField, ReadsMessage, WritesMessage, WritesSetup}

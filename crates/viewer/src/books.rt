@@ -21,8 +21,8 @@ ghost use Rattle.messages.specs.Structs.{notificationOf};
 ghost use Rattle.book.specs.Answers.{opened, heldOpened, sideOpened};
 ghost use Rattle.calls.specs.Answers.{afterCall, gated, notifiedOf, appliedOf, ranOf};
 ghost use Rattle.position.specs.Totals.{totalled, dayTotalRules, dayTotals, figured};
-ghost use Rattle.shown.specs.Figures.{caseOf, firstOf, secondOf};
-ghost use Rattle.bars.specs.Marks.{dayMarkRules, dayMarked};
+ghost use Rattle.bar.specs.Figures.{caseOf, firstOf, secondOf};
+ghost use Rattle.marks.specs.Marks.{dayMarkRules, dayMarked};
 ghost use Rattle.viewer.specs.Asked.{named};
 
 #[no_mangle]
@@ -55,7 +55,7 @@ pub extern "C" fn ghendufika_open(
 pub extern "C" fn ghendufika_is_sound(b: Book, held: &[u32], side1: &[i32], side2: &[i32]) -> bool
     ensures { λ r. ⌜ r ≡ sound (bookOf b (now (held .entry)) (now (side1 .entry)) (now (side2 .entry))) ⌝ }
 {
-    book::state::is_sound(b, held, side1, side2)
+    book::soundness::is_sound(b, held, side1, side2)
 }
 
 #[no_mangle]
@@ -211,7 +211,7 @@ pub extern "C" fn ghendufika_row_refusal(
     let reference = asked::at_most_65535(reference);
     let day = asked::at_most_65535(day);
     let side = asked::at_most_255(side);
-    bars::rows::row_refusal(b, held, side1, side2, originator, reference, day, side)
+    marks::rows::row_refusal(b, held, side1, side2, originator, reference, day, side)
 }
 
 #[no_mangle]
@@ -238,7 +238,7 @@ pub extern "C" fn ghendufika_day_marks(
     let reference = asked::at_most_65535(reference);
     let account = asked::at_most_255(account);
     let day = asked::at_most_65535(day);
-    bars::marks::day_marks(
+    marks::periods::day_marks(
         b,
         held,
         side1,

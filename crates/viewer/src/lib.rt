@@ -3,12 +3,12 @@
 mod asked; // asked.rt: the numbers that a question names
 pub mod books; // books.rt: a book from C
 pub mod packing; // packing.rt: messages, setups and books out of packed bytes, and into them
-pub mod marks; // marks.rt: one mark, and where a row lies
+pub mod bars; // bars.rt: one mark, and where a row lies
 
 ghost use mathlib.Core.Path.{_≡_};
 ghost use Rattle.words.specs.Rules.{answer};
 ghost use Rattle.meaning.specs.PackedMessages.{readingRules, readMessage};
-ghost use Rattle.questions.specs.Questions.{fieldIn};
+ghost use Rattle.message_fields.specs.Questions.{fieldIn};
 
 // `bar` is the number of the mark's case: 0 Blank, 1 OneSide, 2 Agreed, 3 Disagreed; a figure that the case does not have is positive zero. With a
 // refusal the mark is blank.
@@ -42,5 +42,5 @@ pub extern "C" fn ghendufika_message_field(bytes: &[u8], field: u32) -> i64
     ensures { λ r. ⌜ r ≡ fieldIn (readMessage (now (bytes .entry)) .read) field ⌝ }
 {
     let read = message_reading::read_message(bytes);
-    questions::message_field(read.message, field)
+    message_fields::message_field(read.message, field)
 }

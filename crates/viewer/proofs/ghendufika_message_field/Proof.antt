@@ -7,7 +7,7 @@ use borrow.Author.Needs.{needs}
 use Rattle.meaning.specs.PackedMessages.{readMessage}
 use Rattle.messages.specs.declared.Message.{Message}
 use Rattle.message_reading.specs.declared.MessageRead.{MessageRead}
-use Rattle.questions.specs.Questions.{messageField}
+use Rattle.message_fields.specs.Questions.{messageField}
 use Rattle.viewer.proofs.Answers.{message-read}
 use Rattle.viewer.proofs.PackedPromises.{MessageField}
 use Rattle.viewer.proofs.ghendufika_message_field.Statement.{statement}

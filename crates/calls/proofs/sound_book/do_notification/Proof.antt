@@ -16,8 +16,8 @@ use Rattle.book.specs.Structs.{bookOf}
 use Rattle.calls.specs.declared.Notified.{Notified}
 use Rattle.book.proofs.StateLaws.{clock-time}
 use Rattle.calls.proofs.CallLaws.{call-refused, sound-slots}
-use Rattle.kinds.proofs.KindLaws.{row-writes-one, row-writes-two}
-use Rattle.effects.proofs.EffectLaws.{accepted-slot}
+use Rattle.notification_kinds.proofs.KindLaws.{row-writes-one, row-writes-two}
+use Rattle.message_effects.proofs.EffectLaws.{accepted-slot}
 use Rattle.calls.proofs.NotifyLaws.{notificationCall, notification-answer, notified-done, notified-number, held-notified, side-notified}
 use Rattle.calls.proofs.sound_book.do_notification.Statement.{statement}
 use Rattle.calls.proofs.sound_book.do_notification.Tie as tie

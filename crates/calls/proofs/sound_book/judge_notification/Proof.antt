@@ -14,9 +14,9 @@ use Rattle.meaning.specs.Soundness.{sound}
 use Rattle.meaning.specs.Notifications.{under, kindOf, kindNumber, notificationRules}
 use Rattle.messages.specs.Structs.{notificationOf}
 use Rattle.calls.specs.Answers.{notifiedOf}
-use Rattle.checks.specs.Checks.{checkRules}
+use Rattle.message_checks.specs.Checks.{checkRules}
 use Rattle.book.specs.Structs.{bookOf}
-use Rattle.effects.proofs.EffectLaws.{accepted-slot}
+use Rattle.message_effects.proofs.EffectLaws.{accepted-slot}
 use Rattle.calls.proofs.NotifyLaws.{early-answer, late-answer, late-same, notified-refused, notified-done, sound-fits, sound-kind}
 use Rattle.calls.proofs.sound_book.judge_notification.Statement.{statement}
 use Rattle.calls.proofs.sound_book.judge_notification.Tie as tie

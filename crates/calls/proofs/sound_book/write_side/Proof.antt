@@ -8,7 +8,7 @@ use lib.IntN.{ℤ}
 use denote.Ref.{now}
 use Rattle.words.specs.Lists.{mapAt}
 use Rattle.clock.specs.Structs.{timeOf}
-use Rattle.effects.specs.Effects.{slotRule}
+use Rattle.message_effects.specs.Effects.{slotRule}
 use Rattle.calls.proofs.sound_book.write_side.Statement.{statement}
 use Rattle.calls.proofs.sound_book.write_side.Tie as tie
 

@@ -1,0 +1,160 @@
+// What an accepted message makes of one side's table (meaning, Messages.antt): a slot's open places from a first day on, written by day runs.
+use book::Book;
+use book::state;
+ghost use mathlib.Core.Path.{_≡_};
+ghost use Prim.Native.Nat.{ℕ, suc, _-_, _≤_, min};
+ghost use lib.ListN.{length};
+ghost use Rattle.words.specs.Tests.{_=?_};
+ghost use Rattle.words.specs.Lists.{build, mapAt};
+ghost use Rattle.meaning.specs.Time.{periodsAt, gatesBefore};
+ghost use Rattle.meaning.specs.Ledgers.{dayAt, Side};
+ghost use Rattle.meaning.specs.Messages.{volume, rewritten};
+ghost use Rattle.messages.specs.Structs.{notificationOf};
+ghost use Rattle.setups.specs.Structs.{rowsOf};
+ghost use Rattle.clock.specs.Structs.{timeOf};
+ghost use Rattle.book.specs.Structs.{timeIn};
+ghost use Rattle.message_effects.specs.Effects.{only, slotRule, DayInside, SlotGiven, pairIn, nullified, pairBlanked};
+
+// Entries past the array are of period 0, and give nothing.
+fn entries_inside(count: u8) -> usize
+    ensures { λ r. ⌜ r ≡ min count 50 ⌝ }
+{
+    if count < limits::MOST_ENTRIES {
+        return count as usize;
+    }
+    limits::MOST_ENTRIES as usize
+}
+
+// The volume that a notification gives for each period. From the last entry down, so that a period's first entry stands.
+pub fn volumes_of(n: messages::Notification) -> [i32; limits::PLACES_A_DAY]
+    ensures { λ r. ⌜ r ≡ build 50 (λ (p : ℕ). volume (notificationOf n .entries) (suc p)) ⌝ }
+{
+    let mut volumes: [i32; limits::PLACES_A_DAY] = [0; limits::PLACES_A_DAY];
+    let mut k = entries_inside(n.count);
+    while 0 < k {
+        k -= 1;
+        let e = n.entries[k];
+        let place = e.period as usize;
+        let volume = e.volume;
+        if (0 < place) & (place <= limits::PLACES_A_DAY) {
+            volumes[place - 1] = volume;
+        }
+    }
+    volumes
+}
+
+// How many periods of the day at place d are closed.
+fn closed_on(c: clock::Clock, d: u8) -> usize
+    ensures { λ r. ⌜ r ≡ min (c .closed - gatesBefore (timeOf c .codes) d) (periodsAt (timeOf c .codes) d) ⌝ }
+{
+    let gates = clock::gates_before(c, d);
+    let periods = clock::periods_at(c, d);
+    if c.closed < gates {
+        return 0;
+    }
+    let closed = c.closed - gates;
+    if closed < periods as u16 {
+        return closed as usize;
+    }
+    periods as usize
+}
+
+// One day of a slot.
+fn write_day(
+    side: &mut [i32],
+    c: clock::Clock,
+    slot: usize,
+    d: u8,
+    first: u16,
+    until: u32,
+    volumes: &[i32],
+)
+    requires { ⌜ DayInside slot d (c .days) (length (now volumes)) ⌝ }
+    ensures { λ r. ⌜ now (side .exit) ≡ mapAt (only (λ (j : ℕ). dayAt (c .days) j =? d) (slotRule (timeOf c) slot first until (now (volumes .entry)))) (now (side .entry)) ⌝ }
+{
+    let day = c.first as u32 + d as u32;
+    if day < first as u32 {
+        return;
+    }
+    let base = (slot * c.days as usize + d as usize) * limits::PLACES_A_DAY;
+    let closed = closed_on(c, d);
+    let periods = clock::periods_at(c, d) as usize;
+    if day < until {
+        ledger::store_run(side, base + closed, &volumes[closed..periods]);
+        return;
+    }
+    ledger::blank_run(side, base + closed, periods - closed);
+}
+
+// Every day of a slot: the volumes on the days before `until`, and the mark from there on.
+fn write_days(
+    side: &mut [i32],
+    c: clock::Clock,
+    slot: usize,
+    first: u16,
+    until: u32,
+    volumes: &[i32],
+)
+    requires { ⌜ SlotGiven slot (length (now volumes)) ⌝ }
+    ensures { λ r. ⌜ now (side .exit) ≡ mapAt (slotRule (timeOf c) slot first until (now (volumes .entry))) (now (side .entry)) ⌝ }
+{
+    let mut d: u8 = 0;
+    while d < c.days {
+        write_day(side, c, slot, d, first, until, volumes);
+        d += 1;
+    }
+}
+
+// A notification's slot: its volumes to its last day, and the mark after it.
+pub fn write_slot(
+    side: &mut [i32],
+    c: clock::Clock,
+    slot: u8,
+    first: u16,
+    last: u16,
+    volumes: [i32; limits::PLACES_A_DAY],
+)
+    ensures { λ r. ⌜ now (side .exit) ≡ mapAt (slotRule (timeOf c) slot first (suc last) volumes) (now (side .entry)) ⌝ }
+{
+    write_days(side, c, slot as usize, first, last as u32 + 1, &volumes);
+}
+
+// A slot's entry holds an identifier whose originating authorisation is between the two accounts, in either order.
+fn of_pair(b: Book, entry: u32, account: u8, other: u8) -> bool
+    ensures { λ r. ⌜ r ≡ pairIn (rowsOf (b .setup .authorisations) (b .setup .rows)) account other entry ⌝ }
+{
+    if entry == 0 {
+        return false;
+    }
+    let row = state::row_of(b, ledger::slots::originator_of(entry));
+    ((account == row.account1) & (other == row.account2))
+        | ((other == row.account1) & (account == row.account2))
+}
+
+// On few slots: the mark at the open places from the first day on, in each slot whose identifier is between the two accounts.
+fn blank_slots(side: &mut [i32], held: &[u32], b: Book, account: u8, other: u8, first: u16)
+    requires { ⌜ length (now held) ≤ 256 ⌝ }
+    ensures { λ r. ⌜ ((σ : Side) → now (side .exit) ≡ rewritten (rowsOf (b .setup .authorisations) (b .setup .rows)) (timeIn b) (nullified account other first) (now (held .entry)) σ (now (side .entry))) ⌝ }
+{
+    let c = state::clock_of(b);
+    let unused: [i32; limits::PLACES_A_DAY] = [0; limits::PLACES_A_DAY];
+    let mut s: usize = 0;
+    while s < held.len() {
+        let entry = held[s];
+        if of_pair(b, entry, account, other) {
+            write_days(side, c, s, first, 0, &unused);
+        }
+        s += 1;
+    }
+}
+
+// A nullification: in each slot whose identifier is between the two accounts the mark, at the open places from the first day on. Either side.
+// More slots than a book has stay as they came.
+pub fn blank_pair(side: &mut [i32], held: &[u32], b: Book, account: u8, other: u8, first: u16)
+    ensures { λ r. ⌜ ((σ : Side) → now (side .exit) ≡ pairBlanked b account other first (now (held .entry)) σ (now (side .entry))) ⌝ }
+{
+    if limits::MOST_SLOTS < held.len() {
+        return;
+    }
+    blank_slots(side, held, b, account, other, first);
+}
