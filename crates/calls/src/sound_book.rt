@@ -72,7 +72,14 @@ fn write_side(side: &mut [i32], writes: bool, c: clock::Clock, slot: u8, n: mess
     ensures { λ r. ⌜ now (side .exit) ≡ cond writes (mapAt (slotRule (timeOf c) slot (n .first) (suc (n .last)) (build 50 (λ (p : ℕ). volume (notificationOf n .entries) (suc p)))) (now (side .entry))) (now (side .entry)) ⌝ }
 {
     if writes {
-        message_effects::write_slot(side, c, slot, n.first, n.last, message_effects::volumes_of(n));
+        message_effects::write_slot(
+            side,
+            c,
+            slot,
+            n.first,
+            n.last,
+            message_effects::volumes_of(n),
+        );
     }
 }
 
@@ -98,8 +105,20 @@ pub(crate) fn do_notification(
     let c = state::clock_of(b);
     let row = state::row_of(b, n.authorisation as u32);
     held[slot] = ledger::slots::entry_of(n.originator, n.reference);
-    write_side(side1, authorisations::writes_side1(row, n.agent), c, slot as u8, n);
-    write_side(side2, authorisations::writes_side2(row, n.agent), c, slot as u8, n);
+    write_side(
+        side1,
+        authorisations::writes_side1(row, n.agent),
+        c,
+        slot as u8,
+        n,
+    );
+    write_side(
+        side2,
+        authorisations::writes_side2(row, n.agent),
+        c,
+        slot as u8,
+        n,
+    );
     told
 }
 

@@ -1,3 +1,4 @@
--- The slot of an identifier, and that no two outcomes meet one promise.
+-- The places and the slots that the functions' proofs speak of, and that no two outcomes meet one promise.
+pub mod PlaceLaws
 pub mod SlotLaws
 pub mod Unique

@@ -2,6 +2,7 @@
 use denote.Ref.{now}
 use Rattle.laws.proofs.Cases.{one-outcome}
 use Rattle.laws.proofs.Promises.{OneOutcome, OneResult}
+use Rattle.ledger.proofs.place_of.Reads as place-of
 use Rattle.ledger.proofs.states.Reads as states
 use Rattle.ledger.proofs.volume_at.Reads as volume-at
 use Rattle.ledger.proofs.store_run.Reads as store-run
@@ -10,6 +11,9 @@ use Rattle.ledger.proofs.slots.entry_of.Reads as entry-of
 use Rattle.ledger.proofs.slots.originator_of.Reads as originator-of
 use Rattle.ledger.proofs.slots.slot_of.Reads as slot-of
 use Rattle.ledger.proofs.slots.slot_for.Reads as slot-for
+
+pub unique-place-of : OneResult place-of.Post
+unique-place-of κs a r r′ s s′ = one-outcome
 
 pub unique-states : OneResult states.Post
 unique-states κs a r r′ s s′ = one-outcome

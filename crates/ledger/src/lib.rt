@@ -1,14 +1,21 @@
-// The lent tables of a book: what a place holds, and runs of places stored (meaning, Ledgers.antt).
+// The lent tables of a book: where a side's table has a place, what it holds, and runs of places stored (meaning, Ledgers.antt).
 pub mod slots; // slots.rt: the identifier that a slot holds, and the slot of an identifier
 
 ghost use mathlib.Core.Path.{_≡_};
-ghost use Prim.Native.Nat.{_-_, min};
+ghost use Prim.Native.Nat.{suc, _-_, min};
 ghost use lib.ListN.{getD, replicate};
 ghost use lib.Seq.{sets};
-ghost use Rattle.meaning.specs.Ledgers.{contracts, stands, theMark};
+ghost use Rattle.meaning.specs.Ledgers.{contracts, index, stands, theMark};
 
 // "the mark -2,147,483,648 means nothing stands"
 pub const MARK: i32 = -2147483648;
+
+// Where a side's table has a slot's volume on the day at place d in the period at place p, both from 0. No argument is too large for the product.
+pub fn place_of(slot: u8, days: u8, d: u8, p: u8) -> usize
+    ensures { λ r. ⌜ r ≡ index days slot d (suc p) ⌝ }
+{
+    (slot as usize * days as usize + d as usize) * limits::PLACES_A_DAY + p as usize
+}
 
 // A place states something when it does not hold the mark.
 pub fn states(v: i32) -> bool

@@ -2,10 +2,9 @@
 use mathlib.Core.Bool.{Bool, true, false, not, _&&_, _||_}
 use mathlib.Core.List.{List}
 use mathlib.Core.Path.{_≡_, refl, sym, ap, ap₂, _∙_}
-use Prim.Native.Nat.{ℕ, suc, _+_, _-_, _*_, _/_, _%_, _≤_, _<_}
+use Prim.Native.Nat.{ℕ, suc, _+_, _-_, _*_, _≤_, _<_}
 use native.Mathlib.Nat.{add-zero, add-assoc}
 use native.Mathlib.Omega.{arith}
-use lib.Arith.{digits-div, digits-mod}
 use lib.Dec.{leb, ltb, eqb}
 use lib.IntN.{ℤ}
 use lib.ListN.{length, getD}
@@ -17,9 +16,10 @@ use Rattle.laws.proofs.Builds.{length-build}
 use Rattle.laws.proofs.Cases.{on, by-eq, and-false, and-true, or-false}
 use Rattle.laws.proofs.Lists.{everyAt-below}
 use Rattle.meaning.specs.Time.{periodsOfCode, periodsAt, isPeriodAt}
-use Rattle.meaning.specs.Ledgers.{contracts, theMark, places, slotAt, dayAt, periodAt}
+use Rattle.meaning.specs.Ledgers.{contracts, theMark, index, places}
 use Rattle.meaning.specs.Soundness.{placeRight, tableRight}
 use Rattle.meaning.proofs.Clock.{periods-le}
+use Rattle.ledger.proofs.PlaceLaws.{first-is, slot-here, day-here, period-here}
 use Rattle.clock.specs.Structs.{timeOf}
 use Rattle.clock.specs.declared.Clock.{Clock}
 use Rattle.ledger_soundness.specs.Parts.{blank, right, DayLength, rowRight, daysRight}
@@ -41,37 +41,24 @@ held-test e =
     (λ q. rw q)
     (λ q. lt-ltb 0 e (omega arith) ∙ sym (ap not (ne-eqb e 0 q)))
 
-module _ (n s : ℕ) {d p : ℕ} (hd : d < n) (hp : p < 50) where
-  slot-here : slotAt n ((s * n + d) * 50 + p) ≡ s
-  unfolding slotAt
-  slot-here = ap (λ (x : ℕ). x / n) (digits-div (s * n + d) hp) ∙ digits-div s hd
-
-  day-here : dayAt n ((s * n + d) * 50 + p) ≡ d
-  unfolding dayAt
-  day-here = ap (λ (x : ℕ). x % n) (digits-div (s * n + d) hp) ∙ digits-mod s hd
-
-  period-here : periodAt ((s * n + d) * 50 + p) ≡ suc p
-  unfolding periodAt
-  period-here = ap suc (digits-mod (s * n + d) hp)
-
 -- a place of a slot's day, by whether the slot is held and the period is one of the day
 module _ (codes held : List ℕ) (s : ℕ) {d p : ℕ} (hd : d < length codes) (hp : p < 50) (v : ℤ) where
   period-test : isPeriodAt codes d (suc p) ≡ ltb p (periodsAt codes d)
   unfolding isPeriodAt
   period-test = rw (lt-ltb d (length codes) hd, le-leb 1 (suc p) (omega arith))
 
-  place-here : placeRight contracts codes held ((s * length codes + d) * 50 + p) v
+  place-here : placeRight contracts codes held (index (length codes) s d 1 + p) v
       ≡ blank v || (within 99999999 v && ltb 0 (getD held s 0) && ltb p (periodsAt codes d))
   unfolding placeRight
   place-here = rw (slot-here (length codes) s hd hp, day-here (length codes) s hd hp, period-here (length codes) s hd hp, period-test)
 
-  place-unheld : ltb 0 (getD held s 0) ≡ false → placeRight contracts codes held ((s * length codes + d) * 50 + p) v ≡ blank v
+  place-unheld : ltb 0 (getD held s 0) ≡ false → placeRight contracts codes held (index (length codes) s d 1 + p) v ≡ blank v
   place-unheld e = place-here ∙ rw (e, and-false (within 99999999 v)) (or-false (blank v))
 
-  place-past : periodsAt codes d ≤ p → placeRight contracts codes held ((s * length codes + d) * 50 + p) v ≡ blank v
+  place-past : periodsAt codes d ≤ p → placeRight contracts codes held (index (length codes) s d 1 + p) v ≡ blank v
   place-past h = place-here ∙ rw (le-ltb p (periodsAt codes d) h, and-false (within 99999999 v && ltb 0 (getD held s 0))) (or-false (blank v))
 
-  place-held : ltb 0 (getD held s 0) ≡ true → p < periodsAt codes d → placeRight contracts codes held ((s * length codes + d) * 50 + p) v ≡ right v
+  place-held : ltb 0 (getD held s 0) ≡ true → p < periodsAt codes d → placeRight contracts codes held (index (length codes) s d 1 + p) v ≡ right v
   unfolding right
   place-held e h = place-here ∙ rw (e, lt-ltb p (periodsAt codes d) h, and-true (within 99999999 v), and-true (within 99999999 v))
 
@@ -106,11 +93,11 @@ row-blank side base n true h e =
 
 -- a slot's day
 row-here : (side : List ℤ) (codes held : List ℕ) (s d : ℕ) → d < length codes
-    → everyBelow 50 (λ (p : ℕ). placeRight contracts codes held ((s * length codes + d) * 50 + p) (getD side ((s * length codes + d) * 50 + p) theMark))
-    ≡ rowRight side ((s * length codes + d) * 50) (periodsAt codes d) (ltb 0 (getD held s 0))
+    → everyBelow 50 (λ (p : ℕ). placeRight contracts codes held (index (length codes) s d 1 + p) (getD side (index (length codes) s d 1 + p) theMark))
+    ≡ rowRight side (index (length codes) s d 1) (periodsAt codes d) (ltb 0 (getD held s 0))
 unfolding rowRight
 row-here side codes held s d hd =
-    let base = (s * length codes + d) * 50 in
+    let base = index (length codes) s d 1 in
     let n = periodsAt codes d in
     let few = periods-le codes d in
     let f : ℕ → Bool = λ p. placeRight contracts codes held (base + p) (getD side (base + p) theMark) in
@@ -129,7 +116,7 @@ row-here side codes held s d hd =
 -- the whole table
 table-here : (side : List ℤ) (codes held : List ℕ) → length side ≡ places (length held) (length codes)
     → tableRight contracts codes held side
-    ≡ everyBelow (length held) (λ (s : ℕ). everyBelow (length codes) (λ (d : ℕ). rowRight side ((s * length codes + d) * 50) (periodsAt codes d) (ltb 0 (getD held s 0))))
+    ≡ everyBelow (length held) (λ (s : ℕ). everyBelow (length codes) (λ (d : ℕ). rowRight side (index (length codes) s d 1) (periodsAt codes d) (ltb 0 (getD held s 0))))
 unfolding tableRight
 table-here side codes held e =
     let n = length codes in
@@ -139,8 +126,8 @@ table-here side codes held e =
     ∙ every-runs (length held * n) 50 f
     ∙ every-runs (length held) n (λ (a : ℕ). everyBelow 50 (λ (b : ℕ). f (a * 50 + b)))
     ∙ every-ext (length held) (λ (s : ℕ). everyBelow n (λ (d : ℕ). everyBelow 50 (λ (b : ℕ). f ((s * n + d) * 50 + b))))
-    (λ (s : ℕ). everyBelow n (λ (d : ℕ). rowRight side ((s * n + d) * 50) (periodsAt codes d) (ltb 0 (getD held s 0))))
-    (λ s hs. every-ext n (λ (d : ℕ). everyBelow 50 (λ (b : ℕ). f ((s * n + d) * 50 + b))) (λ (d : ℕ). rowRight side ((s * n + d) * 50) (periodsAt codes d) (ltb 0 (getD held s 0))) (λ d hd. row-here side codes held s d hd))
+    (λ (s : ℕ). everyBelow n (λ (d : ℕ). rowRight side (index n s d 1) (periodsAt codes d) (ltb 0 (getD held s 0))))
+    (λ s hs. every-ext n (λ (d : ℕ). everyBelow 50 (λ (b : ℕ). f ((s * n + d) * 50 + b))) (λ (d : ℕ). rowRight side (index n s d 1) (periodsAt codes d) (ltb 0 (getD held s 0))) (λ d hd. ap (λ (first : ℕ). everyBelow 50 (λ (b : ℕ). f (first + b))) (first-is n s d) ∙ row-here side codes held s d hd))
 
 -- of a clock's days
 pub table-days : (side : List ℤ) (held : List ℕ) (c : Clock) → length side ≡ places (length held) (c .days)

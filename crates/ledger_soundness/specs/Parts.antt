@@ -8,7 +8,7 @@ use lib.ListN.{length, getD}
 use Rattle.words.specs.Tests.{if_then_else_, _<?_, _≤?_, _=?_, within}
 use Rattle.words.specs.Below.{everyBelow}
 use Rattle.meaning.specs.Time.{periodsAt}
-use Rattle.meaning.specs.Ledgers.{contracts, theMark, stands, places}
+use Rattle.meaning.specs.Ledgers.{contracts, theMark, stands, index, places}
 use Rattle.meaning.specs.Soundness.{tableRight}
 use Rattle.clock.specs.Structs.{timeOf}
 use Rattle.clock.specs.declared.Clock.{Clock}
@@ -45,12 +45,11 @@ rowRight side base periods held =
 -- every day of a slot
 unfoldable pub daysRight : List ℤ → ℕ → Bool → Clock → Bool
 daysRight side slot held c =
-    everyBelow (c .days) (λ (d : ℕ). rowRight side ((slot * c .days + d) * 50) (periodsAt (timeOf c .codes) d) held)
+    everyBelow (c .days) (λ (d : ℕ). rowRight side (index (c .days) slot d 1) (periodsAt (timeOf c .codes) d) held)
 
--- the slot's places are inside the table, and there are few
+-- the slot's places are inside the table, and its days are few
 pub record SlotInside (side : List ℤ) (slot days : ℕ) : Type 0 where
   pub days-few : days ≤ 8
-  pub slot-few : slot < 256
   pub inside : (slot + 1) * (days * 50) ≤ length side
 
 -- a table of the right length, of few days and slots, whose every place is right

@@ -104,7 +104,7 @@ pub fn held_right(held: &[u32], known: usize) -> bool
 }
 
 // Every day of a slot.
-fn days_right(side: &[i32], slot: usize, held: bool, c: clock::Clock) -> bool
+fn days_right(side: &[i32], slot: u8, held: bool, c: clock::Clock) -> bool
     requires { ⌜ SlotInside (now side) slot (c .days) ⌝ }
     ensures { λ r. ⌜ r ≡ daysRight (now (side .entry)) slot held c ⌝ }
 {
@@ -112,7 +112,7 @@ fn days_right(side: &[i32], slot: usize, held: bool, c: clock::Clock) -> bool
     let mut ok = true;
     let mut d: u8 = 0;
     while d < c.days {
-        let base = (slot * c.days as usize + d as usize) * limits::PLACES_A_DAY;
+        let base = ledger::place_of(slot, c.days, d, 0);
         let periods = clock::periods_of(codes[d as usize]) as usize;
         ok = ok & row_right(side, base, periods, held);
         d += 1;
@@ -138,7 +138,7 @@ pub fn side_right(side: &[i32], held: &[u32], c: clock::Clock) -> bool
     let mut s: usize = 0;
     while s < held.len() {
         let entry = held[s];
-        ok = ok & days_right(side, s, entry != 0, c);
+        ok = ok & days_right(side, s as u8, entry != 0, c);
         s += 1;
     }
     ok

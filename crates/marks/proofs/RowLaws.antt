@@ -9,9 +9,6 @@ use native.Mathlib.Omega.{arith}
 use lib.Dec.{leb, ltb}
 use lib.IntN.{ℤ}
 use lib.ListN.{length, getD, take, drop}
-use denote.Laws.{Is}
-use denote.Struct.Declared as Declared
-use denote.Struct.Laws.{vals}
 use borrow.Author.Tests.{leb-true, le-leb, lt-ltb, ltb-true, ne-eqb, not-false}
 use Rattle.words.specs.Tests.{between}
 use Rattle.words.specs.Rules.{answer}
@@ -27,11 +24,9 @@ use Rattle.meaning.proofs.Held as Held-laws
 use Rattle.meaning.proofs.Places.{index-lt}
 use Rattle.meaning.proofs.Sound.{parts}
 use Rattle.meaning.proofs.Standing.{sound-opens, length-side}
+use Rattle.ledger.proofs.PlaceLaws.{index-next}
 use Rattle.book.specs.declared.Book.{Book}
 use Rattle.book.specs.Structs.{timeIn, bookOf}
-use Rattle.book.proofs.Book as Held
-use Rattle.book.proofs.Book.Laws as HeldLaws
-use Rattle.book.proofs.StateLaws.{days-few}
 use Rattle.book.proofs.SoundParts.{codes-count}
 
 -- ---- numbers
@@ -79,25 +74,15 @@ period-of-day b D p e h =
 pub period-day : (b : Book) (D period : ℕ) → isPeriod (timeIn b) D period ≡ true → hasDay (timeIn b) D ≡ true
 period-day b D period e = is-true (hasDay (timeIn b) D) (λ n. true≢false (sym e ∙ period-none b D period n))
 
--- few slots of few days
-pub few-places : (b : Book) → Is (Declared.row Held.the-type) b (vals Held.the-type HeldLaws.the-laws b) → (slot : ℕ) → slot < 256 → slot * b .setup .days ≤ 65536
-few-places b g slot h =
-    let few : slot ≤ 256 = omega arith in
-    let short : b .setup .days ≤ 256 = omega (arith, days-few b g) in
-    mul-le-mul few short
+-- a place, as the code computes it
+pub index-is : (b : Book) (slot period : ℕ) {d place : ℕ} → 1 ≤ period → place ≡ d → index (b .setup .days) slot place (suc (period - 1)) ≡ index (days (timeIn b)) slot d period
+index-is b slot period h e = let q : suc (period - 1) ≡ period = omega arith in rw (codes-count b, q, e)
 
--- a place, as the code computes it; and the day's other places by the first
-pub index-is : (b : Book) (slot d period : ℕ) → (slot * b .setup .days + d) * 50 + (period - 1) ≡ index (days (timeIn b)) slot d period
-unfolding index
-index-is b slot d period = rw (codes-count b)
-
-pub index-from : (n slot d period : ℕ) → 1 ≤ period → index n slot d period + 1 ≡ index n slot d 1 + period
-unfolding index
-index-from n slot d period h = omega arith
-
--- so the part from period 1's place to one past the last's is the day's length long
+-- the part from period 1's place to one past the last's is the day's length long
 pub part-ends : (n slot d p : ℕ) {from last long : ℕ} → 1 ≤ p → from ≡ index n slot d 1 → last ≡ index n slot d p → p ≡ long → last + 1 ≡ from + long
-part-ends n slot d p h f l e = omega (arith, index-from n slot d p h, f, l, e)
+part-ends n slot d p h f l e =
+    let q : suc (p - 1) ≡ p = omega arith in
+    omega (arith, rw q at (index-next n slot d (p - 1)), f, l, e)
 
 -- ---- the row of a held identifier's day, in a sound book
 

@@ -2,9 +2,9 @@
 use crate::Marked;
 use crate::asking;
 use crate::rows;
+use bar::Bar;
 use book::state;
 use limits::numbers;
-use bar::Bar;
 ghost use mathlib.Core.Path.{_≡_};
 ghost use Prim.Native.Nat.{ℕ, _+_, _≤_};
 ghost use lib.Ieee.{Float};

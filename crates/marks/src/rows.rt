@@ -10,7 +10,7 @@ ghost use Prim.Native.Nat.{_≤_, _<_};
 ghost use Rattle.words.specs.Tests.{_=?_};
 ghost use Rattle.words.specs.Rules.{answer};
 ghost use Rattle.meaning.specs.Time.{periodsAt, days, dayOf, hasDay};
-ghost use Rattle.meaning.specs.Ledgers.{index, identifierOf, slotOf};
+ghost use Rattle.meaning.specs.Ledgers.{index, identifierOf};
 ghost use Rattle.meaning.specs.Rows.{rowRules, row};
 ghost use Rattle.book.specs.Structs.{timeIn, bookOf};
 ghost use Rattle.marks.specs.Rows.{rowPlace, tableOf, partAt};
@@ -40,7 +40,7 @@ pub(crate) fn index_of(b: book::Book, slot: usize, day: u16, period: u8) -> usiz
 {
     let s = b.setup;
     let d = day_of(b, day);
-    (slot * s.days as usize + d as usize) * limits::PLACES_A_DAY + (period as usize - 1)
+    ledger::place_of(slot as u8, s.days, d, period - 1)
 }
 
 // The number that refuses a row, or 0.

@@ -2,10 +2,8 @@
 use mathlib.Core.Bool.{Bool, true, false, cond, _&&_, _||_}
 use mathlib.Core.List.{List}
 use mathlib.Core.Path.{_≡_, refl, sym, ap, _∙_}
-use Prim.Native.Nat.{ℕ, suc, _+_, _-_, _*_, _/_, _%_, _≤_, _<_, min}
-use native.Mathlib.Nat.{div-add-mod', mul-le-mul}
+use Prim.Native.Nat.{ℕ, suc, _+_, _-_, _%_, _≤_, _<_, min}
 use native.Mathlib.Omega.{arith}
-use lib.Arith.{digits-div, digits-mod}
 use lib.Dec.{leb, ltb, eqb}
 use lib.IntN.{ℤ, pos}
 use lib.ListN.{length, getD, take, drop, replicate, length-take, length-drop, length-replicate, getD-replicate}
@@ -16,8 +14,9 @@ use Rattle.laws.proofs.Cases.{on, by-lt, by-eq, and-left, and-right, and-false,
 use Rattle.laws.proofs.Lists.{length-mapAt, getD-mapAt, mapAt-is, mapAt-same}
 use Rattle.laws.proofs.Stores.{sets-map}
 use Rattle.meaning.specs.Time.{Time, days, dayNumber, periodsAt, isPeriodAt, gatesBefore, isOpenAt}
-use Rattle.meaning.specs.Ledgers.{theMark, slotAt, dayAt, periodAt}
+use Rattle.meaning.specs.Ledgers.{theMark, index, slotAt, dayAt, periodAt}
 use Rattle.meaning.proofs.Clock.{periods-le}
+use Rattle.ledger.proofs.PlaceLaws.{slot-here, day-here, period-here, only-here}
 use Rattle.message_effects.specs.Effects.{only, slotRule}
 
 -- ---- some of the places after others
@@ -72,29 +71,9 @@ below-next k d =
 
 -- ---- the places of a slot's day
 
-module _ (n slot d : ℕ) (hd : d < n) where
-  slot-here : (p : ℕ) → p < 50 → slotAt n ((slot * n + d) * 50 + p) ≡ slot
-  unfolding slotAt
-  slot-here p h = ap (λ (x : ℕ). x / n) (digits-div (slot * n + d) h) ∙ digits-div slot hd
-
-  day-here : (p : ℕ) → p < 50 → dayAt n ((slot * n + d) * 50 + p) ≡ d
-  unfolding dayAt
-  day-here p h = ap (λ (x : ℕ). x % n) (digits-div (slot * n + d) h) ∙ digits-mod slot hd
-
-  period-here : (p : ℕ) → p < 50 → periodAt ((slot * n + d) * 50 + p) ≡ suc p
-  unfolding periodAt
-  period-here p h = ap suc (digits-mod (slot * n + d) h)
-
-  -- and no other place is of that day of that slot
-  only-here : (j : ℕ) → slotAt n j ≡ slot → dayAt n j ≡ d → j ≡ (slot * n + d) * 50 + j % 50
-  unfolding slotAt dayAt
-  only-here j s w =
-      let q : j / 50 ≡ slot * n + d = sym (div-add-mod' (j / 50) n) ∙ rw (s, w) in
-      sym (div-add-mod' j 50) ∙ ap (λ (x : ℕ). x * 50 + j % 50) q
-
 -- the first place of a slot's day, and how many of its periods are closed
 abbrev pub baseOf : ℕ → ℕ → ℕ → ℕ
-baseOf n slot d = (slot * n + d) * 50
+baseOf n slot d = index n slot d 1
 
 abbrev pub closedIn : Time → ℕ → ℕ
 closedIn t d = min (t .closed - gatesBefore (t .codes) d) (periodsAt (t .codes) d)
@@ -136,9 +115,9 @@ module _ (t : Time) (n slot d first until : ℕ) (volumes : List ℤ) (e : days 
   rule-here j old low high =
       let p = j - baseOf n slot d in
       let at : j ≡ baseOf n slot d + p = omega arith in
-      let s : slotAt n j ≡ slot = ap (slotAt n) at ∙ slot-here n slot d hd p (omega arith) in
-      let w : dayAt n j ≡ d = ap (dayAt n) at ∙ day-here n slot d hd p (omega arith) in
-      let q : periodAt j ≡ suc p = ap periodAt at ∙ period-here n slot d hd p (omega arith) in
+      let s : slotAt n j ≡ slot = ap (slotAt n) at ∙ slot-here n slot {p = p} hd (omega arith) in
+      let w : dayAt n j ≡ d = ap (dayAt n) at ∙ day-here n slot {p = p} hd (omega arith) in
+      let q : periodAt j ≡ suc p = ap periodAt at ∙ period-here n slot {p = p} hd (omega arith) in
       let z : suc p - 1 ≡ p = omega arith in
       rw (e, s, w, q, eq-eqb slot slot refl, open-here t d p (omega arith), z)
 
@@ -161,7 +140,7 @@ module _ (t : Time) (n slot d first until : ℕ) (volumes : List ℤ) (e : days 
       let away : (j % 50 < 50 → j ≡ base + j % 50 → ⊥) → only test rule j old ≡ old = λ far.
       by-eq (dayAt n j) d
       (λ w. by-eq (slotAt n j) slot
-      (λ s. absurd (far (omega arith) (only-here n slot d hd j s w)))
+      (λ s. absurd (far (omega arith) (only-here n slot d j s w)))
       (λ s. only-is test rule j old (eq-eqb (dayAt n j) d w) ∙ rule-other j old (ne-eqb (slotAt n j) slot s)))
       (λ w. only-id test rule j old (ne-eqb (dayAt n j) d w)) in
       by-lt j base
@@ -169,7 +148,7 @@ module _ (t : Time) (n slot d first until : ℕ) (volumes : List ℤ) (e : days 
       (λ w. by-lt j (base + 50)
       (λ h.
       let at : j ≡ base + (j - base) = omega arith in
-      let day : dayAt n j ≡ d = ap (dayAt n) at ∙ day-here n slot d hd (j - base) (omega arith) in
+      let day : dayAt n j ≡ d = ap (dayAt n) at ∙ day-here n slot {p = j - base} hd (omega arith) in
       let end : base + from + (periods - from) ≡ base + periods = omega arith in
       only-is test rule j old (eq-eqb (dayAt n j) d day)
       ∙ rule-here j old w h
@@ -251,10 +230,3 @@ module _ (t : Time) (n slot first until : ℕ) (volumes : List ℤ) (e : days t 
 
   pub days-all : (side : List ℤ) → mapAt (only (λ (j : ℕ). ltb (dayAt n j) n) (slotRule t slot first until volumes)) side ≡ mapAt (slotRule t slot first until volumes) side
   days-all side = only-all (slotRule t slot first until volumes) side (λ (j : ℕ). ltb (dayAt n j) n) rule-past
-
--- few slots of few days
-pub place-small : (slot n : ℕ) → slot < 256 → n < 256 → slot * n ≤ 65536
-place-small slot n h l =
-    let few : slot ≤ 256 = omega arith in
-    let short : n ≤ 256 = omega arith in
-    mul-le-mul few short

@@ -26,14 +26,8 @@ slotRule t slot first until volumes j old =
 unfoldable pub only : (ℕ → Bool) → (ℕ → ℤ → ℤ) → ℕ → ℤ → ℤ
 only p f j old = if p j then f j old else old
 
--- few slots, and a volume for each period
-pub record SlotGiven (slot given : ℕ) : Type 0 where
-  pub slot-few : slot < 256
-  pub all-given : given ≡ 50
-
--- and one of the book's days
-pub record DayInside (slot d n given : ℕ) : Type 0 where
-  pub slot-few : slot < 256
+-- one of the book's days, and a volume for each period
+pub record DayInside (d n given : ℕ) : Type 0 where
   pub day-inside : d < n
   pub all-given : given ≡ 50
 

@@ -13,7 +13,7 @@ ghost use Rattle.messages.specs.Structs.{notificationOf};
 ghost use Rattle.setups.specs.Structs.{rowsOf};
 ghost use Rattle.clock.specs.Structs.{timeOf};
 ghost use Rattle.book.specs.Structs.{timeIn};
-ghost use Rattle.message_effects.specs.Effects.{only, slotRule, DayInside, SlotGiven, pairIn, nullified, pairBlanked};
+ghost use Rattle.message_effects.specs.Effects.{only, slotRule, DayInside, pairIn, nullified, pairBlanked};
 
 // Entries past the array are of period 0, and give nothing.
 fn entries_inside(count: u8) -> usize
@@ -63,20 +63,20 @@ fn closed_on(c: clock::Clock, d: u8) -> usize
 fn write_day(
     side: &mut [i32],
     c: clock::Clock,
-    slot: usize,
+    slot: u8,
     d: u8,
     first: u16,
     until: u32,
     volumes: &[i32],
 )
-    requires { ⌜ DayInside slot d (c .days) (length (now volumes)) ⌝ }
+    requires { ⌜ DayInside d (c .days) (length (now volumes)) ⌝ }
     ensures { λ r. ⌜ now (side .exit) ≡ mapAt (only (λ (j : ℕ). dayAt (c .days) j =? d) (slotRule (timeOf c) slot first until (now (volumes .entry)))) (now (side .entry)) ⌝ }
 {
     let day = c.first as u32 + d as u32;
     if day < first as u32 {
         return;
     }
-    let base = (slot * c.days as usize + d as usize) * limits::PLACES_A_DAY;
+    let base = ledger::place_of(slot, c.days, d, 0);
     let closed = closed_on(c, d);
     let periods = clock::periods_at(c, d) as usize;
     if day < until {
@@ -87,15 +87,8 @@ fn write_day(
 }
 
 // Every day of a slot: the volumes on the days before `until`, and the mark from there on.
-fn write_days(
-    side: &mut [i32],
-    c: clock::Clock,
-    slot: usize,
-    first: u16,
-    until: u32,
-    volumes: &[i32],
-)
-    requires { ⌜ SlotGiven slot (length (now volumes)) ⌝ }
+fn write_days(side: &mut [i32], c: clock::Clock, slot: u8, first: u16, until: u32, volumes: &[i32])
+    requires { ⌜ length (now volumes) ≡ 50 ⌝ }
     ensures { λ r. ⌜ now (side .exit) ≡ mapAt (slotRule (timeOf c) slot first until (now (volumes .entry))) (now (side .entry)) ⌝ }
 {
     let mut d: u8 = 0;
@@ -116,7 +109,7 @@ pub fn write_slot(
 )
     ensures { λ r. ⌜ now (side .exit) ≡ mapAt (slotRule (timeOf c) slot first (suc last) volumes) (now (side .entry)) ⌝ }
 {
-    write_days(side, c, slot as usize, first, last as u32 + 1, &volumes);
+    write_days(side, c, slot, first, last as u32 + 1, &volumes);
 }
 
 // A slot's entry holds an identifier whose originating authorisation is between the two accounts, in either order.
@@ -142,7 +135,7 @@ fn blank_slots(side: &mut [i32], held: &[u32], b: Book, account: u8, other: u8, 
     while s < held.len() {
         let entry = held[s];
         if of_pair(b, entry, account, other) {
-            write_days(side, c, s, first, 0, &unused);
+            write_days(side, c, s as u8, first, 0, &unused);
         }
         s += 1;
     }

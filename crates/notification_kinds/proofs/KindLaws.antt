@@ -29,7 +29,7 @@ use Rattle.setups.specs.Structs.{rowOf}
 use Rattle.setups.proofs.SetupHeld.{codes-own}
 use Rattle.book.specs.declared.Book.{Book}
 use Rattle.book.specs.Structs.{timeIn, rowsIn, bookOf}
-use Rattle.notification_kinds.specs.Kinds.{Fits, Inside, SlotInside, placeOf, statesPlace, periodsFrom, periodsWithin, fromFirst, fits, kindAnswer}
+use Rattle.notification_kinds.specs.Kinds.{Fits, Inside, SlotInside, statesPlace, periodsFrom, periodsWithin, fromFirst, fits, kindAnswer}
 
 -- ---- a search that has found nothing yet
 
@@ -117,10 +117,10 @@ module _ (b : Book) (n : messages.Notification) (row : setups.Authorisation) (e 
   -- ---- a place, by the sides that are written: what the code answers, r, is what the place states
 
   module _ {w1 w2 : Bool} (e1 : w1 ≡ n .agent =? row .agent1) (e2 : w2 ≡ n .agent =? row .agent2) (held : List ℕ) (side1 side2 : List ℤ) (s d p : ℕ)
-      {r : Bool} (q : r ≡ statesPlace side1 side2 w1 w2 (placeOf (b .setup .days) s d p)) where
+      {r : Bool} (q : r ≡ statesPlace side1 side2 w1 w2 (index (b .setup .days) s d (suc p))) where
     pub place-states : statesAt (bookOf b held side1 side2) (notificationOf n) s d (suc p) ≡ r
-    unfolding statesAt statesPlace at index
-    place-states = let z : suc p - 1 ≡ p = omega arith in rw (q, e1, e2, row-writes-one, row-writes-two, codes-own, z)
+    unfolding statesAt statesPlace at
+    place-states = rw (q, e1, e2, row-writes-one, row-writes-two, codes-own)
 
     -- and of an open period
     pub open-states : b .closed - gatesBefore (timeIn b .codes) d ≤ p → onPeriod (bookOf b held side1 side2) (notificationOf n) s d p ≡ r
@@ -169,10 +169,11 @@ pub slot-inside : (b : Book) (held : List ℕ) (side1 side2 : List ℤ) (s : ℕ
 slot-inside b held side1 side2 s f h =
     let m = mul-le-mul-right (b .setup .days) h in
     let q = suc-mul s (b .setup .days) in
-    record { in1 = omega (arith, m, q, f .table1); in2 = omega (arith, m, q, f .table2) }
+    record { slot-few = omega (arith, f .slots-few); in1 = omega (arith, m, q, f .table1); in2 = omega (arith, m, q, f .table2) }
 
 pub place-inside : (b : Book) (side1 side2 : List ℤ) (s d p : ℕ) → SlotInside b side1 side2 s → d < b .setup .days → p < 50 → Inside side1 side2 (b .setup .days) s d p
-place-inside b side1 side2 s d p f hd hp = record { in1 = omega (arith, f .in1); in2 = omega (arith, f .in2) }
+unfolding index
+place-inside b side1 side2 s d p f hd hp = record { slot-few = f .slot-few; period-few = hp; in1 = omega (arith, f .in1); in2 = omega (arith, f .in2) }
 
 -- ---- what does not read a table
 

@@ -2,12 +2,12 @@
 use mathlib.Core.Bool.{Bool, _&&_, _||_}
 use mathlib.Core.List.{List}
 use mathlib.Core.Path.{_≡_}
-use Prim.Native.Nat.{ℕ, _+_, _*_, _≤_, _<_}
+use Prim.Native.Nat.{ℕ, suc, _+_, _*_, _≤_, _<_}
 use lib.IntN.{ℤ}
 use lib.ListN.{length, getD}
 use Rattle.words.specs.Tests.{if_then_else_, _≤?_, _=?_, between}
 use Rattle.meaning.specs.Time.{Time, periodsAt, dayNumber}
-use Rattle.meaning.specs.Ledgers.{contracts, theMark, stands, places}
+use Rattle.meaning.specs.Ledgers.{contracts, theMark, stands, index, places}
 use Rattle.meaning.specs.Messages.{Notification}
 use Rattle.meaning.specs.Books as Books
 use Rattle.meaning.specs.Notifications.{statesOn, kindOf, kindNumber}
@@ -21,14 +21,12 @@ pub record Fits (b : Book) (held : List ℕ) (side1 side2 : List ℤ) : Type 0 w
   pub table1 : length side1 ≡ places (length held) (b .setup .days)
   pub table2 : length side2 ≡ places (length held) (b .setup .days)
 
--- the place of a slot, a day's place and a period less one
-abbrev pub placeOf : ℕ → ℕ → ℕ → ℕ → ℕ
-placeOf days s d p = (s * days + d) * 50 + p
-
--- the place is in both tables
+-- the place of a slot, a day's place and a period's is in both tables, and there are few slots and periods
 pub record Inside (side1 side2 : List ℤ) (days s d p : ℕ) : Type 0 where
-  pub in1 : placeOf days s d p < length side1
-  pub in2 : placeOf days s d p < length side2
+  pub slot-few : s < 256
+  pub period-few : p < 50
+  pub in1 : index days s d (suc p) < length side1
+  pub in2 : index days s d (suc p) < length side2
 
 -- a place states something, on a side that is written
 unfoldable pub statesPlace : List ℤ → List ℤ → Bool → Bool → ℕ → Bool
@@ -42,8 +40,9 @@ periodsFrom t first d = if first ≤? dayNumber t d then periodsAt (t .codes) d 
 unfoldable pub periodsWithin : Time → ℕ → ℕ → ℕ → ℕ
 periodsWithin t first last d = if between first last (dayNumber t d) then periodsAt (t .codes) d else 0
 
--- the slot's places are in both tables
+-- the slot's places are in both tables, and there are few slots
 pub record SlotInside (b : Book) (side1 side2 : List ℤ) (s : ℕ) : Type 0 where
+  pub slot-few : s < 256
   pub in1 : s * b .setup .days * 50 + b .setup .days * 50 ≤ length side1
   pub in2 : s * b .setup .days * 50 + b .setup .days * 50 ≤ length side2
 

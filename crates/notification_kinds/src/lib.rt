@@ -4,17 +4,18 @@ use book::state;
 use setups::authorisations;
 ghost use mathlib.Core.List.{[]};
 ghost use mathlib.Core.Path.{_≡_};
-ghost use Prim.Native.Nat.{_-_};
+ghost use Prim.Native.Nat.{suc, _-_};
 ghost use lib.ListN.{length, getD};
 ghost use Rattle.words.specs.Below.{someBelow};
 ghost use Rattle.words.specs.Tests.{_=?_};
 ghost use Rattle.meaning.specs.Time.{gatesBefore};
 ghost use Rattle.meaning.specs.Authorisations.{rowAt};
+ghost use Rattle.meaning.specs.Ledgers.{index};
 ghost use Rattle.meaning.specs.Notifications.{isReplacement, isOther, overlaps, kindOf, kindNumber};
 ghost use Rattle.messages.specs.Structs.{notificationOf};
 ghost use Rattle.setups.specs.Structs.{noAuthorisation, rowOf};
 ghost use Rattle.book.specs.Structs.{timeIn, rowsIn, originPlace, settingIn, bookOf};
-ghost use Rattle.notification_kinds.specs.Kinds.{Fits, Inside, placeOf, statesPlace, periodsFrom, periodsWithin, SlotInside, fromFirst, fits, kindAnswer};
+ghost use Rattle.notification_kinds.specs.Kinds.{Fits, Inside, statesPlace, periodsFrom, periodsWithin, SlotInside, fromFirst, fits, kindAnswer};
 
 const INITIAL: u8 = 1;
 
@@ -53,9 +54,9 @@ fn states_at(
     p: u16,
 ) -> bool
     requires { ⌜ Inside (now side1) (now side2) days s d p ⌝ }
-    ensures { λ r. ⌜ r ≡ statesPlace (now (side1 .entry)) (now (side2 .entry)) w1 w2 (placeOf days s d p) ⌝ }
+    ensures { λ r. ⌜ r ≡ statesPlace (now (side1 .entry)) (now (side2 .entry)) w1 w2 (index days s d (suc p)) ⌝ }
 {
-    let i = (s * days as usize + d as usize) * limits::PLACES_A_DAY + p as usize;
+    let i = ledger::place_of(s as u8, days, d, p as u8);
     let stated1 = ledger::states(side1[i]);
     let stated2 = ledger::states(side2[i]);
     (w1 & stated1) | (w2 & stated2)

@@ -24,6 +24,7 @@ use Rattle.meaning.specs.Totals.{matches, counted}
 use Rattle.meaning.proofs.Counted.{seen-other, counted-small}
 use Rattle.meaning.proofs.Sound.{parts}
 use Rattle.meaning.proofs.Standing.{sound-opens}
+use Rattle.ledger.proofs.PlaceLaws.{index-next}
 use Rattle.book.specs.declared.Book.{Book}
 use Rattle.book.specs.Structs.{rowsIn, bookOf}
 use Rattle.book.proofs.SoundParts.{codes-count}
@@ -31,10 +32,6 @@ use Rattle.position.specs.Counting.{DayAsked, PartInside, countedAt}
 use Rattle.position.proofs.TotalLaws.{counted-by-place}
 
 -- ---- places
-
-place-next : (n slot d first p : ℕ) → first ≡ index n slot d 1 → first + p ≡ index n slot d (suc p)
-unfolding index
-place-next n slot d first p e = omega (arith, e)
 
 module _ (b : Book) (held : List ℕ) (side1 side2 : List ℤ) (d : ℕ) (a : DayAsked (bookOf b held side1 side2) d) where
   pub slots-few : length held ≤ 256
@@ -55,7 +52,7 @@ module _ (b : Book) (held : List ℕ) (side1 side2 : List ℤ) (d : ℕ) (a : Da
   place-inside slot place p h e few =
       let first = index (b .setup .days) slot d 1 in
       let i = day-inside slot first 50 h refl (omega arith) in
-      let n = place-next (b .setup .days) slot d first p refl in
+      let n = index-next (b .setup .days) slot d p in
       (omega (arith, i .in1, n, e), omega (arith, i .in2, n, e))
 
 -- ---- what a slot counts, by its first place of the day
@@ -64,7 +61,8 @@ module _ (b : Book) (held : List ℕ) (side1 side2 : List ℤ) (account d slot :
     (o : origin ≡ originIn (rowsIn (b .setup)) (getD held slot 0)) (f : first ≡ index (b .setup .days) slot d 1) where
   pub counted-from : (p : ℕ) → countedAt origin account side1 side2 (first + p) ≡ counted (bookOf b held side1 side2) account d (suc p) slot
   counted-from p =
-      (λ i. countedAt (o i) account side1 side2 (place-next (b .setup .days) slot d first p f i)) ∙ sym (counted-by-place b held side1 side2 account d p slot)
+      let place : first + p ≡ index (b .setup .days) slot d (suc p) = ap (λ (k : ℕ). k + p) f ∙ index-next (b .setup .days) slot d p in
+      (λ i. countedAt (o i) account side1 side2 (place i)) ∙ sym (counted-by-place b held side1 side2 account d p slot)
 
 -- an account that is not of the pair counts nothing
 pub foreign-none : (origin : Authorisation) (account : ℕ) (side1 side2 : List ℤ) (place : ℕ) → inPair origin account ≡ false → countedAt origin account side1 side2 place ≡ pos 0

@@ -3,8 +3,7 @@ use mathlib.Core.Bool.{true, false}
 use mathlib.Core.List.{List}
 use mathlib.Core.Logic.{_≢_}
 use mathlib.Core.Path.{_≡_, refl, sym, _∙_}
-use Prim.Native.Nat.{ℕ, suc, _+_, _*_, _≤_, _<_}
-use native.Mathlib.Nat.{mul-le-mul}
+use Prim.Native.Nat.{ℕ, suc, _≤_, _<_}
 use native.Mathlib.Omega.{arith}
 use lib.Dec.{leb, ltb}
 use lib.IntN.{ℤ, pos}
@@ -30,14 +29,6 @@ use Rattle.position.specs.Counting.{DayAsked, countedAt, sumAnswered}
 use Rattle.position.specs.Totals.{totalled, dayPeriods, dayTotalRules, dayTotals}
 
 -- ---- what a slot counts
-
--- where a place is, its period counted from 0
-pub product-few : (slot n : ℕ) → slot ≤ 255 → n ≤ 255 → slot * n ≤ 65025
-product-few slot n h l = mul-le-mul h l
-
-pub place-is : (n slot d p : ℕ) → (slot * n + d) * 50 + p ≡ index n slot d (suc p)
-unfolding index
-place-is n slot d p = omega arith
 
 pub counted-by-place : (b : Book) (held : List ℕ) (side1 side2 : List ℤ) (account d p slot : ℕ)
     → counted (bookOf b held side1 side2) account d (suc p) slot ≡ countedAt (originIn (rowsIn (b .setup)) (getD held slot 0)) account side1 side2 (index (b .setup .days) slot d (suc p))

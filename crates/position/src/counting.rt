@@ -1,21 +1,13 @@
 // What a slot counts for an account: matched volumes only, plus for account 1, minus for account 2; and when a question of a day is refused.
 ghost use mathlib.Core.Path.{_≡_};
-ghost use Prim.Native.Nat.{suc, _≤_, _<_};
+ghost use Prim.Native.Nat.{_≤_, _<_};
 ghost use lib.IntN.{natAbs};
 ghost use lib.ListN.{length};
 ghost use Rattle.words.specs.Rules.{answer};
-ghost use Rattle.meaning.specs.Ledgers.{index};
 ghost use Rattle.meaning.specs.Totals.{figuresRules};
 ghost use Rattle.setups.specs.Structs.{rowOf};
 ghost use Rattle.book.specs.Structs.{bookOf};
 ghost use Rattle.position.specs.Counting.{countedAt};
-
-// Where a side's table has a slot's volume on the day at place d in the period at place p, both from 0.
-pub(crate) fn place_of(slot: u8, days: u8, d: u8, p: u8) -> usize
-    ensures { λ r. ⌜ r ≡ index days slot d (suc p) ⌝ }
-{
-    (slot as usize * days as usize + d as usize) * limits::PLACES_A_DAY + p as usize
-}
 
 // What a place counts for an account, where its slot's identifier has this originating authorisation.
 pub(crate) fn counted_at(

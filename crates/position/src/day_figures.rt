@@ -82,7 +82,7 @@ fn day_sums(b: book::Book, held: &[u32], side1: &[i32], side2: &[i32], account: 
         let entry = held[slot];
         let row = rows[book::state::origin_place(entry)];
         let origin = book::state::origin_row(b.setup.authorisations, entry, row);
-        let first = counting::place_of(slot as u8, b.setup.days, d, 0);
+        let first = ledger::place_of(slot as u8, b.setup.days, d, 0);
         let sums = slot_sums(origin, account, side1, side2, first, periods);
         sold += sums.sold;
         bought += sums.bought;

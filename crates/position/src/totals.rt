@@ -50,7 +50,7 @@ fn sum_of(
         let entry = held[slot];
         let row = rows[book::state::origin_place(entry)];
         let origin = book::state::origin_row(b.setup.authorisations, entry, row);
-        let place = counting::place_of(slot as u8, b.setup.days, d, p);
+        let place = ledger::place_of(slot as u8, b.setup.days, d, p);
         kwh += counting::counted_at(origin, account, side1, side2, place);
         slot += 1;
     }
@@ -144,7 +144,7 @@ fn store_totals(
         let entry = held[slot];
         let row = rows[book::state::origin_place(entry)];
         let origin = book::state::origin_row(b.setup.authorisations, entry, row);
-        let first = counting::place_of(slot as u8, b.setup.days, d, 0);
+        let first = ledger::place_of(slot as u8, b.setup.days, d, 0);
         add_slot(origin, account, side1, side2, first, periods, out);
     }
 }

@@ -70,6 +70,11 @@ mul-entry c = search needs
 shared-slice-read-entry : tie.Need-shared-slice-read-entry Inv-loop μ-loop
 shared-slice-read-entry c = search needs
 
+cast-days-right : tie.Need-cast-days-right Inv-loop μ-loop
+cast-days-right c =
+    let few : tie.Else2 Inv-loop μ-loop = search in
+    omega (arith, few .if2 .left)
+
 days-right-requires : tie.Need-days-right-requires Inv-loop μ-loop
 days-right-requires c κs =
     let turn : tie.At-loop Inv-loop μ-loop = search in
@@ -81,7 +86,6 @@ days-right-requires c κs =
     let s = turn .loop .s in
     record {
       days-few = few-days .if1 .left;
-      slot-few = omega (arith, few-slots .if2 .left);
       inside = omega (arith, lent .if3 .left, mul-le-mul-right (a .c .days * 50) (c .before .loop-test .taken));
     }
 
@@ -132,6 +136,7 @@ side-right-spec =
     loop-holds
     mul-entry
     shared-slice-read-entry
+    cast-days-right
     days-right-requires
     add-s
     loop-less

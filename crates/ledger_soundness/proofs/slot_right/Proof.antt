@@ -1,7 +1,6 @@
 -- An unheld slot is right; of a held one the originator and the slots before are tested.
 use borrow.Author.Needs.{needs}
 use mathlib.Core.Path.{refl, sym, _∙_}
-use native.Mathlib.Omega.{arith}
 use denote.Ref.{now}
 use lib.ListN.{getD}
 use Rattle.ledger_soundness.specs.Parts.{below}
@@ -42,14 +41,14 @@ none-holds-requires c κs = search needs
 returns-2 : tie.Need-returns-2
 returns-2 c =
     let start : tie.Start = search in
-    let taken : tie.Else1 = search in
+    let holds : tie.Else1 = search in
     let origin : tie.After-originator-of = search in
     let a = start .args in
     let held = now (a .held) in
     let entry = getD held (a .k) 0 in
     let inside = start .pre in
     let before = c .none-holds .ensures ∙ part-before held (a .k) entry inside ∙ sym (found-here held (a .k) entry inside refl) in
-    rw before (sym (slot-held (a .known) held (a .k) entry (taken .if1 .left) (origin .originator-of .ensures)))
+    rw before (sym (slot-held (a .known) held (a .k) entry (holds .if1 .left) (origin .originator-of .ensures)))
 
 pub slot-right-spec : {M : Type 1} → statement M
 slot-right-spec =

@@ -46,6 +46,9 @@ shared-slice-read-entry c = search needs
 of-pair-requires : tie.Need-of-pair-requires Inv-loop μ-loop
 of-pair-requires c κs = search needs
 
+cast-write-days : tie.Need-cast-write-days Inv-loop μ-loop
+cast-write-days c = search needs
+
 slice-aggregate-write-days : tie.Need-slice-aggregate-write-days Inv-loop μ-loop
 slice-aggregate-write-days c = search needs
 
@@ -102,6 +105,7 @@ blank-slots-spec =
     mul-entry
     shared-slice-read-entry
     of-pair-requires
+    cast-write-days
     slice-aggregate-write-days
     write-days-requires
     add-s

@@ -6,7 +6,8 @@ use denote.Ref.{now}
 use Rattle.laws.proofs.Builds.{length-build}
 use Rattle.meaning.proofs.Clock.{periods-le}
 use Rattle.clock.specs.Structs.{timeOf}
-use Rattle.message_effects.proofs.DayRuns.{day-early, day-stored, day-blanked, place-small}
+use Rattle.ledger.proofs.PlaceLaws.{index-few}
+use Rattle.message_effects.proofs.DayRuns.{day-early, day-stored, day-blanked}
 use Rattle.message_effects.proofs.write_day.Statement.{statement}
 use Rattle.message_effects.proofs.write_day.Tie as tie
 
@@ -22,26 +23,8 @@ returns c =
     let a = start .args in
     day-early (timeOf (a .c)) (a .c .days) (a .slot) (a .d) (a .first) (a .until) (now (a .volumes)) (length-build (a .c .days) _) (start .pre .day-inside) (now (a .side)) (c .if1 .taken)
 
-cast-base : tie.Need-cast-base
-cast-base c = search needs
-
-mul-base : tie.Need-mul-base
-mul-base c =
-    let start : tie.Start = search in
-    let a = start .args in
-    omega (arith, place-small (a .slot) (a .c .days) (start .pre .slot-few) (omega arith))
-
-add-base : tie.Need-add-base
-add-base c =
-    let start : tie.Start = search in
-    let a = start .args in
-    omega (arith, place-small (a .slot) (a .c .days) (start .pre .slot-few) (omega arith))
-
-mul-base-2 : tie.Need-mul-base-2
-mul-base-2 c =
-    let start : tie.Start = search in
-    let a = start .args in
-    omega (arith, place-small (a .slot) (a .c .days) (start .pre .slot-few) (omega arith))
+place-of-requires : tie.Need-place-of-requires
+place-of-requires c κs = search needs
 
 closed-on-requires : tie.Need-closed-on-requires
 closed-on-requires c κs = search needs
@@ -55,9 +38,10 @@ cast-periods c = search needs
 add-store-run : tie.Need-add-store-run
 add-store-run c =
     let closed-on : tie.After-closed-on = search in
+    let base : tie.After-place-of = search in
     let start : tie.Start = search in
     let a = start .args in
-    omega (arith, place-small (a .slot) (a .c .days) (start .pre .slot-few) (omega arith), closed-on .closed-on .ensures, periods-le (timeOf (a .c) .codes) (a .d))
+    omega (arith, base .place-of .ensures, index-few (a .c .days) (a .slot) (a .d) 0 (omega arith) (omega arith) (omega arith) (omega arith), closed-on .closed-on .ensures, periods-le (timeOf (a .c) .codes) (a .d))
 
 mul-store-run : tie.Need-mul-store-run
 mul-store-run c = search needs
@@ -86,19 +70,21 @@ returns-2 c =
     let within : tie.Then2 = search in
     let periods-at : tie.After-periods-at = search in
     let closed-on : tie.After-closed-on = search in
+    let base : tie.After-place-of = search in
     let from-first : tie.Else1 = search in
     let s : tie.Start = search in
     let a = s .args in
     c .before .store-run .ensures
-    ∙ rw (closed-on .closed-on .ensures, periods-at .periods-at .ensures)
+    ∙ rw (base .place-of .ensures, closed-on .closed-on .ensures, periods-at .periods-at .ensures)
     (day-stored (timeOf (a .c)) (a .c .days) (a .slot) (a .d) (a .first) (a .until) (now (a .volumes)) (length-build (a .c .days) _) (s .pre .day-inside) (now (a .side)) (from-first .if1 .left) (within .if2 .taken) (s .pre .all-given))
 
 add-blank-run : tie.Need-add-blank-run
 add-blank-run c =
     let closed-on : tie.After-closed-on = search in
+    let base : tie.After-place-of = search in
     let start : tie.Start = search in
     let a = start .args in
-    omega (arith, place-small (a .slot) (a .c .days) (start .pre .slot-few) (omega arith), closed-on .closed-on .ensures, periods-le (timeOf (a .c) .codes) (a .d))
+    omega (arith, base .place-of .ensures, index-few (a .c .days) (a .slot) (a .d) 0 (omega arith) (omega arith) (omega arith) (omega arith), closed-on .closed-on .ensures, periods-le (timeOf (a .c) .codes) (a .d))
 
 sub-blank-run : tie.Need-sub-blank-run
 sub-blank-run c = search needs
@@ -114,11 +100,12 @@ returns-3 c =
     let past : tie.Else2 = search in
     let periods-at : tie.After-periods-at = search in
     let closed-on : tie.After-closed-on = search in
+    let base : tie.After-place-of = search in
     let from-first : tie.Else1 = search in
     let s : tie.Start = search in
     let a = s .args in
     c .before .blank-run .ensures
-    ∙ rw (closed-on .closed-on .ensures, periods-at .periods-at .ensures)
+    ∙ rw (base .place-of .ensures, closed-on .closed-on .ensures, periods-at .periods-at .ensures)
     (day-blanked (timeOf (a .c)) (a .c .days) (a .slot) (a .d) (a .first) (a .until) (now (a .volumes)) (length-build (a .c .days) _) (s .pre .day-inside) (now (a .side)) (from-first .if1 .left) (past .if2 .left))
 
 pub write-day-spec : {M : Type 1} → statement M
@@ -128,10 +115,7 @@ write-day-spec =
     cast-day
     add-day
     returns
-    cast-base
-    mul-base
-    add-base
-    mul-base-2
+    place-of-requires
     closed-on-requires
     periods-at-requires
     cast-periods

@@ -1,8 +1,8 @@
 -- Slots and days are few.
 use native.Mathlib.Omega.{arith}
-use Rattle.position.proofs.TotalLaws.{product-few, place-is}
-use Rattle.position.proofs.counting.place_of.Statement.{statement}
-use Rattle.position.proofs.counting.place_of.Tie as tie
+use Rattle.ledger.proofs.PlaceLaws.{product-few, place-is}
+use Rattle.ledger.proofs.place_of.Statement.{statement}
+use Rattle.ledger.proofs.place_of.Tie as tie
 
 mul-result : tie.Need-mul-result
 mul-result c = omega (arith, product-few (c .args .slot) (c .args .days) (omega arith) (omega arith))
