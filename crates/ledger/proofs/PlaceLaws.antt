@@ -3,8 +3,8 @@ use mathlib.Core.Path.{_≡_, sym, ap, _∙_}
 use Prim.Native.Nat.{ℕ, suc, _+_, _*_, _/_, _%_, _≤_, _<_}
 use native.Mathlib.Nat.{div-add-mod', mul-le-mul}
 use native.Mathlib.Omega.{arith}
-use Rattle.meaning.specs.Ledgers.{index, slotAt, dayAt, periodAt}
-use Rattle.meaning.proofs.Places.{slot-index, day-index, period-index}
+use Rattle.meaning.specs.Ledgers.{index, places, slotAt, dayAt, periodAt}
+use Rattle.meaning.proofs.Places.{index-lt, slot-index, day-index, period-index}
 
 -- as the code computes it
 pub place-is : (n slot d p : ℕ) → (slot * n + d) * 50 + p ≡ index n slot d (suc p)
@@ -27,6 +27,11 @@ first-is n slot d = omega arith
 pub index-next : (n slot d p : ℕ) → index n slot d 1 + p ≡ index n slot d (suc p)
 unfolding index
 index-next n slot d p = omega arith
+
+-- they lie in the table of so many slots
+pub day-within : (n slot d slots : ℕ) → slot < slots → d < n → index n slot d 1 + 50 ≤ places slots n
+day-within n slot d slots h hd =
+    omega (arith, index-next n slot d 49, index-lt n slot {period = 50} hd (omega arith) (omega arith) h)
 
 module _ (n slot : ℕ) {d p : ℕ} (hd : d < n) (hp : p < 50) where
   pub slot-here : slotAt n (index n slot d 1 + p) ≡ slot

@@ -15,16 +15,15 @@ use Rattle.words.specs.Rules.{answer}
 use Rattle.laws.proofs.Cases.{on, is-true, and-left, and-right}
 use Rattle.laws.proofs.Rules.{answer-none}
 use Rattle.meaning.specs.Time.{periodsOfCode, periodsAt, isPeriodAt, days, dayOf, hasDay, isPeriod}
-use Rattle.meaning.specs.Ledgers.{contracts, index, places, originatorOf, identifierOf, isHeld, slotOf, Side, one, side}
+use Rattle.meaning.specs.Ledgers.{contracts, index, originatorOf, identifierOf, isHeld, slotOf, Side, one, side}
 use Rattle.meaning.specs.Books as Meaning
 use Rattle.meaning.specs.Soundness.{sound}
 use Rattle.meaning.specs.Rows.{rowRules, row}
 use Rattle.meaning.proofs.Clock.{periods-le}
 use Rattle.meaning.proofs.Held as Held-laws
-use Rattle.meaning.proofs.Places.{index-lt}
 use Rattle.meaning.proofs.Sound.{parts}
 use Rattle.meaning.proofs.Standing.{sound-opens, length-side}
-use Rattle.ledger.proofs.PlaceLaws.{index-next}
+use Rattle.ledger.proofs.PlaceLaws.{index-next, day-within}
 use Rattle.book.specs.declared.Book.{Book}
 use Rattle.book.specs.Structs.{timeIn, bookOf}
 use Rattle.book.proofs.SoundParts.{codes-count}
@@ -118,12 +117,11 @@ module _ (b : Book) (held : List ℕ) (side1 side2 : List ℤ) (i D : ℕ) where
 
     -- it is inside either side's table
     pub row-inside : hasDay (timeIn b) D ≡ true → (σ : Side) → start + long ≤ length (side (before .ledger) σ)
-    unfolding index
     row-inside e σ =
         let d = dayOf (timeIn b) D in
         let n = days (timeIn b) in
         let hd : d < n = rw (codes-count b) (has-day b D e .place) in
-        let last : index n (slotOf held i) d 50 < places (length held) n = index-lt n (slotOf held i) {period = 50} hd (omega arith) (omega arith) (Held-laws.is-held held i h) in
+        let last = day-within n (slotOf held i) d (length held) (Held-laws.is-held held i h) hd in
         omega (arith, last, periods-le (timeIn b .codes) d, length-side before (parts before s) σ)
 
     -- and in few places

@@ -3,7 +3,6 @@ use mathlib.Core.Bool.{false}
 use mathlib.Core.List.{List}
 use mathlib.Core.Path.{_≡_, refl, sym, ap, _∙_}
 use Prim.Native.Nat.{ℕ, suc, _+_, _≤_, _<_}
-use native.Mathlib.Nat.{mul-le-mul-right, suc-mul}
 use native.Mathlib.Omega.{arith}
 use lib.Dec.{eqb}
 use lib.IntN.{ℤ, pos, natAbs, _+ℤ_, +ℤ-idr}
@@ -24,7 +23,7 @@ use Rattle.meaning.specs.Totals.{matches, counted}
 use Rattle.meaning.proofs.Counted.{seen-other, counted-small}
 use Rattle.meaning.proofs.Sound.{parts}
 use Rattle.meaning.proofs.Standing.{sound-opens}
-use Rattle.ledger.proofs.PlaceLaws.{index-next}
+use Rattle.ledger.proofs.PlaceLaws.{index-next, day-within}
 use Rattle.book.specs.declared.Book.{Book}
 use Rattle.book.specs.Structs.{rowsIn, bookOf}
 use Rattle.book.proofs.SoundParts.{codes-count}
@@ -39,14 +38,11 @@ module _ (b : Book) (held : List ℕ) (side1 side2 : List ℤ) (d : ℕ) (a : Da
 
   -- a slot's places of the day
   pub day-inside : (slot first count : ℕ) → slot < length held → first ≡ index (b .setup .days) slot d 1 → count ≤ 50 → PartInside first count side1 side2
-  unfolding index
   day-inside slot first count h e few =
-      let days = b .setup .days in
       let o = sound-opens (bookOf b held side1 side2) (parts (bookOf b held side1 side2) (a .is-sound)) in
-      let m = mul-le-mul-right days h in
-      let q = suc-mul slot days in
       let n = codes-count b in
-      record { in1 = omega (arith, m, q, n, e, a .inside, rw n at (o .side1)); in2 = omega (arith, m, q, n, e, a .inside, rw n at (o .side2)) }
+      let last = day-within (b .setup .days) slot d (length held) h (rw n at (a .inside)) in
+      record { in1 = omega (arith, last, e, rw n at (o .side1)); in2 = omega (arith, last, e, rw n at (o .side2)) }
 
   pub place-inside : (slot place p : ℕ) → slot < length held → place ≡ index (b .setup .days) slot d (suc p) → p < 50 → (place < length side1) × (place < length side2)
   place-inside slot place p h e few =
