@@ -105,21 +105,11 @@ fn volume_out(v: i32) -> bool
     !((limits::LEAST_KWH <= v) & (v <= limits::MOST_KWH))
 }
 
-// The entries that the struct has room for.
-fn count_in(n: messages::Notification) -> u8
-    ensures { λ r. ⌜ r ≡ min (n .count) 50 ⌝ }
-{
-    if limits::MOST_ENTRIES < n.count {
-        return limits::MOST_ENTRIES;
-    }
-    n.count
-}
-
 // A volume out of range: the first such entry ends the search.
 fn volume_wrong(n: messages::Notification) -> bool
     ensures { λ r. ⌜ r ≡ volumeWrong (notificationOf n) ⌝ }
 {
-    let count = count_in(n);
+    let count = messages::entries_inside(n.count);
     let mut k: u8 = 0;
     while k < count {
         let e = n.entries[k as usize];

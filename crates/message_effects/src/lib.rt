@@ -15,22 +15,12 @@ ghost use Rattle.clock.specs.Structs.{timeOf};
 ghost use Rattle.book.specs.Structs.{timeIn};
 ghost use Rattle.message_effects.specs.Effects.{only, slotRule, DayInside, pairIn, nullified, pairBlanked};
 
-// Entries past the array are of period 0, and give nothing.
-fn entries_inside(count: u8) -> usize
-    ensures { λ r. ⌜ r ≡ min count 50 ⌝ }
-{
-    if count < limits::MOST_ENTRIES {
-        return count as usize;
-    }
-    limits::MOST_ENTRIES as usize
-}
-
 // The volume that a notification gives for each period. From the last entry down, so that a period's first entry stands.
 pub fn volumes_of(n: messages::Notification) -> [i32; limits::PLACES_A_DAY]
     ensures { λ r. ⌜ r ≡ build 50 (λ (p : ℕ). volume (notificationOf n .entries) (suc p)) ⌝ }
 {
     let mut volumes: [i32; limits::PLACES_A_DAY] = [0; limits::PLACES_A_DAY];
-    let mut k = entries_inside(n.count);
+    let mut k = messages::entries_inside(n.count) as usize;
     while 0 < k {
         k -= 1;
         let e = n.entries[k];

@@ -98,7 +98,7 @@ fn entries_in(bytes: &[u8], count: u8) -> [Entry; limits::MOST_ENTRIES_WIDE]
         period: 0,
         volume: 0,
     }; limits::MOST_ENTRIES_WIDE];
-    let most = layouts::at_most_fifty(count);
+    let most = messages::entries_inside(count);
     let mut k: u8 = 0;
     while k < most {
         let e = entry_in(bytes, k);

@@ -109,7 +109,7 @@ pub fn writing_refusal(m: Message, room: usize) -> u8
 fn write_entries(n: Notification, out: &mut [u8])
     ensures { λ r. ⌜ now (out .exit) ≡ entriesWritten n (now (out .entry)) ⌝ }
 {
-    let most = layouts::at_most_fifty(n.count);
+    let most = messages::entries_inside(n.count);
     let widths = ENTRY_WIDTHS;
     let mut k: u8 = 0;
     while k < most {

@@ -1,8 +1,8 @@
--- No two different results keep one promise of the layouts.
+-- No two different results keep one promise of `messages`.
 use Rattle.laws.proofs.Cases.{one-outcome}
 use Rattle.laws.proofs.Promises.{OneResult}
 use Rattle.messages.proofs.layouts.kind_refusal.Reads as kind-refusal
-use Rattle.messages.proofs.layouts.at_most_fifty.Reads as at-most-fifty
+use Rattle.messages.proofs.entries_inside.Reads as entries-inside
 use Rattle.messages.proofs.layouts.bits_for.Reads as bits-for
 use Rattle.messages.proofs.layouts.bytes_for.Reads as bytes-for
 use Rattle.messages.proofs.layouts.padding_for.Reads as padding-for
@@ -10,8 +10,8 @@ use Rattle.messages.proofs.layouts.padding_for.Reads as padding-for
 pub unique-kind-refusal : OneResult kind-refusal.Post
 unique-kind-refusal κs a r r′ s s′ = one-outcome
 
-pub unique-at-most-fifty : OneResult at-most-fifty.Post
-unique-at-most-fifty κs a r r′ s s′ = one-outcome
+pub unique-entries-inside : OneResult entries-inside.Post
+unique-entries-inside κs a r r′ s s′ = one-outcome
 
 pub unique-bits-for : OneResult bits-for.Post
 unique-bits-for κs a r r′ s s′ = one-outcome

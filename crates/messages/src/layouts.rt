@@ -3,7 +3,6 @@ use limits::numbers;
 ghost use mathlib.Core.Path.{_≡_};
 ghost use Rattle.words.specs.Fields.{total, bytesFor, padding};
 ghost use Rattle.meaning.specs.PackedMessages.{layoutFor};
-ghost use Prim.Native.Nat.{min};
 ghost use Rattle.messages.specs.Parts.{kindRefusal};
 
 // "Notification: kind 1 (2), authorisation 6, agent 8, key 16, originator 6, reference 16, first day 16, last day 16, count 6"
@@ -29,17 +28,6 @@ pub fn kind_refusal(kind: u8) -> u8
         2 => 0,
         3 => numbers::KIND_THREE,
         _ => numbers::VALUE_DOES_NOT_FIT,
-    }
-}
-
-// A number of entries, at most 50.
-pub fn at_most_fifty(count: u8) -> u8
-    ensures { λ r. ⌜ r ≡ min count 50 ⌝ }
-{
-    if count < limits::MOST_ENTRIES {
-        count
-    } else {
-        limits::MOST_ENTRIES
     }
 }
 

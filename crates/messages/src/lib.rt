@@ -1,6 +1,9 @@
 // Messages by value, and how long they are when packed (meaning, PackedMessages.antt).
 pub mod layouts; // layouts.rt: the bits and bytes that they take
 
+ghost use mathlib.Core.Path.{_≡_};
+ghost use Prim.Native.Nat.{min};
+
 // One period and its volume in whole kWh.
 #[repr(C)]
 pub struct Entry {
@@ -35,4 +38,15 @@ pub struct Message {
     pub kind: u8,
     pub notification: Notification,
     pub nullification: Nullification,
+}
+
+// How many of so many entries a notification has room for. Those past the array are of period 0, and give nothing.
+pub fn entries_inside(count: u8) -> u8
+    ensures { λ r. ⌜ r ≡ min count 50 ⌝ }
+{
+    if count < limits::MOST_ENTRIES {
+        count
+    } else {
+        limits::MOST_ENTRIES
+    }
 }

@@ -24,6 +24,9 @@ abbrev μ-loop : tie.MeasureT-loop
 entries-inside-requires : tie.Need-entries-inside-requires Inv-loop μ-loop
 entries-inside-requires c κs = search needs
 
+cast-k : tie.Need-cast-k Inv-loop μ-loop
+cast-k c = search needs
+
 loop-holds : tie.Need-loop-holds Inv-loop μ-loop
 loop-holds c =
     let a = c .before .args .t1 in
@@ -100,6 +103,7 @@ volumes-of-spec =
     Inv-loop
     μ-loop
     entries-inside-requires
+    cast-k
     loop-holds
     sub-k
     mul-e

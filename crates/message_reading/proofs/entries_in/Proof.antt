@@ -17,8 +17,8 @@ Inv-loop bytes count entries₀ most k₀ entries k = (k ≤ most) × (most ≤ 
 abbrev μ-loop : tie.MeasureT-loop
 μ-loop bytes count entries₀ most k₀ entries k = most - k
 
-at-most-fifty-requires : tie.Need-at-most-fifty-requires Inv-loop μ-loop
-at-most-fifty-requires c κs = search needs
+entries-inside-requires : tie.Need-entries-inside-requires Inv-loop μ-loop
+entries-inside-requires c κs = search needs
 
 loop-holds : tie.Need-loop-holds Inv-loop μ-loop
 loop-holds c =
@@ -63,7 +63,7 @@ entries-in-spec =
     (tie.spec
     Inv-loop
     μ-loop
-    at-most-fifty-requires
+    entries-inside-requires
     loop-holds
     entry-in-requires
     cast-entries

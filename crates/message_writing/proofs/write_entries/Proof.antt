@@ -21,13 +21,13 @@ Inv-loop out₀ n most widths k₀ out k = (k ≤ most) × (most ≡ min (n .cou
 abbrev μ-loop : tie.MeasureT-loop
 μ-loop out₀ n most widths k₀ out k = most - k
 
-at-most-fifty-requires : tie.Need-at-most-fifty-requires Inv-loop μ-loop
-at-most-fifty-requires c κs = tt
+entries-inside-requires : tie.Need-entries-inside-requires Inv-loop μ-loop
+entries-inside-requires c κs = tt
 
 loop-holds : tie.Need-loop-holds Inv-loop μ-loop
 loop-holds c =
     let start : tie.Start Inv-loop μ-loop = search in
-    (omega arith, c .at-most-fifty .ensures, sym (into-none (start .args .t1) (now (start .args .out))))
+    (omega arith, c .entries-inside .ensures, sym (into-none (start .args .t1) (now (start .args .out))))
 
 cast-e : tie.Need-cast-e Inv-loop μ-loop
 cast-e c = search needs
@@ -107,7 +107,7 @@ write-entries-spec =
     (tie.spec
     Inv-loop
     μ-loop
-    at-most-fifty-requires
+    entries-inside-requires
     loop-holds
     cast-e
     mul-e

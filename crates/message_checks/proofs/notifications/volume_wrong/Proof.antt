@@ -20,11 +20,11 @@ Inv-loop n count k₀ k = (k ≤ count) × (count ≤ 50) × (someBelow k (wrong
 abbrev μ-loop : tie.MeasureT-loop
 μ-loop n count k₀ k = count - k
 
-count-in-requires : tie.Need-count-in-requires Inv-loop μ-loop
-count-in-requires c κs = search needs
+entries-inside-requires : tie.Need-entries-inside-requires Inv-loop μ-loop
+entries-inside-requires c κs = search needs
 
 loop-holds : tie.Need-loop-holds Inv-loop μ-loop
-loop-holds c = (omega arith, omega (arith, c .count-in .ensures), some-none _)
+loop-holds c = (omega arith, omega (arith, c .entries-inside .ensures), some-none _)
 
 cast-e : tie.Need-cast-e Inv-loop μ-loop
 cast-e c = search needs
@@ -40,7 +40,7 @@ volume-out-requires c κs = search needs
 
 -- the places that the answers look back to
 abbrev Counted : Type 0
-Counted = tie.After-count-in Inv-loop μ-loop
+Counted = tie.After-entries-inside Inv-loop μ-loop
 
 abbrev Turn : Type 0
 Turn = tie.At-loop Inv-loop μ-loop
@@ -53,17 +53,17 @@ tested : (c : tie.After-volume-out Inv-loop μ-loop) → c .volume-out .result �
 tested c = c .volume-out .ensures ∙ rw (toZ-ofZ {w = w32} (record { sfits = c .before .struct-told .given .1 .0 .1 }))
 
 -- what the whole search answers
-found : (c : tie.After-count-in Inv-loop μ-loop) → someBelow (c .count-in .result) (wrongVolume (c .before .args .t1)) ≡ volumeWrong (notificationOf (c .before .args .t1))
+found : (c : tie.After-entries-inside Inv-loop μ-loop) → someBelow (c .entries-inside .result) (wrongVolume (c .before .args .t1)) ≡ volumeWrong (notificationOf (c .before .args .t1))
 found c =
     let n = c .before .args .t1 in
-    ap (λ (m : ℕ). someBelow m (wrongVolume n)) (c .count-in .ensures) ∙ sym (volumes-wrong n (entries-length n (c .before .good .0)))
+    ap (λ (m : ℕ). someBelow m (wrongVolume n)) (c .entries-inside .ensures) ∙ sym (volumes-wrong n (entries-length n (c .before .good .0)))
 
 returns : tie.Need-returns Inv-loop μ-loop
 returns c =
     let turn : Turn = search in
     let counted : Counted = search in
     let n = counted .before .args .t1 in
-    sym (some-hit (counted .count-in .result) (wrongVolume n) (turn .loop .k) (omega arith) (sym (tested (c .before)) ∙ c .if1 .taken)) ∙ found counted
+    sym (some-hit (counted .entries-inside .result) (wrongVolume n) (turn .loop .k) (omega arith) (sym (tested (c .before)) ∙ c .if1 .taken)) ∙ found counted
 
 add-k : tie.Need-add-k Inv-loop μ-loop
 add-k c = search needs
@@ -84,7 +84,7 @@ returns-2 : tie.Need-returns-2 Inv-loop μ-loop
 returns-2 c =
     let turn : Turn = search in
     let counted : Counted = search in
-    let e : turn .loop .k ≡ counted .count-in .result = omega arith in
+    let e : turn .loop .k ≡ counted .entries-inside .result = omega arith in
     sym (turn .loop .inv .2) ∙ rw e (found counted)
 
 pub volume-wrong-spec : {M : Type 1} → statement M
@@ -93,7 +93,7 @@ volume-wrong-spec =
     (tie.spec
     Inv-loop
     μ-loop
-    count-in-requires
+    entries-inside-requires
     loop-holds
     cast-e
     mul-e
