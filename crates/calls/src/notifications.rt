@@ -3,6 +3,7 @@ use crate::Notified;
 use crate::sound_book;
 use book::Book;
 use book::soundness;
+use book::state;
 use limits::numbers;
 ghost use mathlib.Core.Path.{_≡_};
 ghost use Rattle.meaning.specs.Messages.{notification};
@@ -25,7 +26,8 @@ pub fn notification_answer(
     if !soundness::is_sound(b, held, side1, side2) {
         return sound_book::refused(numbers::NOT_SOUND);
     }
-    sound_book::judge_notification(b, n, held, side1, side2)
+    let row = state::row_of(b, n.authorisation as u32);
+    sound_book::judge_notification(b, n, row, held, side1, side2)
 }
 
 // The answer, and the three tables with what an accepted notification makes of them; a refusal leaves them as they came.

@@ -11,12 +11,14 @@ ghost use Prim.Native.Nat.{ℕ, suc};
 ghost use Rattle.words.specs.Rules.{answer};
 ghost use Rattle.words.specs.Lists.{build, mapAt};
 ghost use Rattle.meaning.specs.Messages.{notification, nullification, volume};
+ghost use Rattle.meaning.specs.Authorisations.{rowAt};
 ghost use Rattle.meaning.specs.Soundness.{sound};
 ghost use Rattle.meaning.specs.Notifications.{notified};
 ghost use Rattle.meaning.specs.Calls.{message, refusal};
 ghost use Rattle.clock.specs.Structs.{timeOf};
 ghost use Rattle.messages.specs.Structs.{notificationOf, nullificationOf, messageOf};
-ghost use Rattle.book.specs.Structs.{bookOf};
+ghost use Rattle.setups.specs.Structs.{rowOf};
+ghost use Rattle.book.specs.Structs.{rowsIn, bookOf};
 ghost use Rattle.calls.specs.Answers.{afterCall, afterMessage, notifiedOf, messageDone};
 ghost use Rattle.message_effects.specs.Effects.{slotRule};
 
@@ -38,15 +40,16 @@ pub(crate) fn refused(answer: u8) -> Notified
     }
 }
 
-// Its answer with kind and slot, before anything is written.
+// Its answer with kind and slot, before anything is written. The row of its authorisation is handed over.
 pub(crate) fn judge_notification(
     b: Book,
     n: messages::Notification,
+    row: setups::Authorisation,
     held: &[u32],
     side1: &[i32],
     side2: &[i32],
 ) -> Notified
-    requires { ⌜ sound (bookOf b (now held) (now side1) (now side2)) ≡ true ⌝ }
+    requires { ⌜ (sound (bookOf b (now held) (now side1) (now side2)) ≡ true) × (rowOf row ≡ rowAt (rowsIn (b .setup)) (n .authorisation)) ⌝ }
     ensures { λ r. ⌜ r ≡ notifiedOf (notified (bookOf b (now (held .entry)) (now (side1 .entry)) (now (side2 .entry))) (notificationOf n)) ⌝ }
 {
     let early = message_checks::notifications::checks_refusal(b, n);
@@ -54,7 +57,6 @@ pub(crate) fn judge_notification(
         return refused(early);
     }
     let kind = notification_kinds::kind_of(b, held, side1, side2, n);
-    let row = state::row_of(b, n.authorisation as u32);
     let slot = ledger::slots::slot_for(held, n.originator, n.reference);
     let late = message_checks::notifications::late_refusal(kind, row.amendment, slot, held.len());
     if late != 0 {
@@ -97,13 +99,13 @@ pub(crate) fn do_notification(
       let call = message (notification (notificationOf n))
       ⌜ (r ≡ notifiedOf (notified before (notificationOf n))) × (now (held .exit) ≡ afterCall before call .ledger .held) × (now (side1 .exit) ≡ afterCall before call .ledger .side1) × (now (side2 .exit) ≡ afterCall before call .ledger .side2) ⌝ }
 {
-    let told = judge_notification(b, n, held, side1, side2);
+    let row = state::row_of(b, n.authorisation as u32);
+    let told = judge_notification(b, n, row, held, side1, side2);
     if told.answer != 0 {
         return told;
     }
     let slot = told.slot as usize;
     let c = state::clock_of(b);
-    let row = state::row_of(b, n.authorisation as u32);
     held[slot] = ledger::slots::entry_of(n.originator, n.reference);
     write_side(
         side1,

@@ -20,12 +20,28 @@ returns c =
     c .refused .ensures
     ∙ unsound-notifies (a .b) (now (a .held)) (now (a .side1)) (now (a .side2)) (a .n) (sym (p .is-sound .ensures) ∙ not-true (p .is-sound .result) (c .before .if1 .taken)) .0
 
+cast-row-of : tie.Need-cast-row-of
+cast-row-of c = search needs
+
+row-of-requires : tie.Need-row-of-requires
+row-of-requires c κs = search needs
+
 judge-notification-requires : tie.Need-judge-notification-requires
-judge-notification-requires c κs = sym (c .before .is-sound .ensures) ∙ not-false (c .before .is-sound .result) (c .if1 .left)
+judge-notification-requires c κs =
+    let known : tie.Else1 = search in
+    (sym (known .before .is-sound .ensures) ∙ not-false (known .before .is-sound .result) (known .if1 .left), c .row-of .ensures)
 
 returns-2 : tie.Need-returns-2
 returns-2 c = c .judge-notification .ensures
 
 pub notification-answer-spec : {M : Type 1} → statement M
 notification-answer-spec =
-    tie.close (tie.spec is-sound-requires refused-requires returns judge-notification-requires returns-2)
+    tie.close
+    (tie.spec
+    is-sound-requires
+    refused-requires
+    returns
+    cast-row-of
+    row-of-requires
+    judge-notification-requires
+    returns-2)

@@ -31,7 +31,7 @@ module _ (s : tie.Start) where
 
 module _ (c : tie.After-judge-notification) where
   abbrev start : tie.Start
-  start = c .before .before .before .before .before
+  start = c .before .before .before .before .before .before .before
 
   number : c .judge-notification .result .answer ≡ answer (notificationRules (whole start) (note start))
   number = ap (λ (r : Notified). r .answer) (c .judge-notification .ensures) ∙ notified-number (whole start) (note start)
@@ -59,8 +59,17 @@ module _ (c : tie.Else1) where
       let a = begun .args in
       omega (arith, slot-inside, sound-slots (a .b) (now (a .held)) (now (a .side1)) (now (a .side2)) (begun .pre))
 
+cast-row-of : tie.Need-cast-row-of
+cast-row-of c = search needs
+
+row-of-requires : tie.Need-row-of-requires
+row-of-requires c κs = search needs
+
 judge-notification-requires : tie.Need-judge-notification-requires
-judge-notification-requires c κs = c .before .before .before .before .pre
+judge-notification-requires c κs =
+    let read : tie.After-row-of = search in
+    let start : tie.Start = search in
+    (start .pre, read .row-of .ensures)
 
 same-length : tie.Need-same-length
 same-length c = search needs
@@ -89,12 +98,6 @@ cast-slot c = search needs
 clock-of-requires : tie.Need-clock-of-requires
 clock-of-requires c κs = search needs
 
-cast-row-of : tie.Need-cast-row-of
-cast-row-of c = search needs
-
-row-of-requires : tie.Need-row-of-requires
-row-of-requires c κs = search needs
-
 entry-of-requires : tie.Need-entry-of-requires
 entry-of-requires c κs = search needs
 
@@ -102,13 +105,17 @@ mul-held : tie.Need-mul-held
 mul-held c = search needs
 
 slice-write-held : tie.Need-slice-write-held
-slice-write-held c = slot-inside (c .before .before .before .before .before)
+slice-write-held c =
+    let accepted : tie.Else1 = search in
+    slot-inside accepted
 
 writes-side1-requires : tie.Need-writes-side1-requires
 writes-side1-requires c κs = search needs
 
 cast-write-side : tie.Need-cast-write-side
-cast-write-side c = omega (arith, slot-few (c .before .before .before .before .before .before .before))
+cast-write-side c =
+    let accepted : tie.Else1 = search in
+    omega (arith, slot-few accepted)
 
 write-side-requires : tie.Need-write-side-requires
 write-side-requires c κs = search needs
@@ -117,7 +124,9 @@ writes-side2-requires : tie.Need-writes-side2-requires
 writes-side2-requires c κs = search needs
 
 cast-write-side-2 : tie.Need-cast-write-side-2
-cast-write-side-2 c = omega (arith, slot-few (c .before .before .before .before .before .before .before .before .before .before .before))
+cast-write-side-2 c =
+    let accepted : tie.Else1 = search in
+    omega (arith, slot-few accepted)
 
 write-side-requires-2 : tie.Need-write-side-requires-2
 write-side-requires-2 c κs = search needs
@@ -134,17 +143,17 @@ same-length-6 c = search needs
 returns-2 : tie.Need-returns-2
 unfolding notificationOf
 returns-2 c =
-    let w1 = c .before .before .before .before .before .before in
-    let written = w1 .before .before in
-    let read = written .before in
-    let clock = read .before .before in
-    let p = clock .before .before in
+    let first : tie.After-writes-side1 = search in
+    let entered : tie.After-entry-of = search in
+    let clock : tie.After-clock-of = search in
+    let p : tie.Else1 = search in
+    let read : tie.After-row-of = search in
     let s = begun p in
     let row = read .row-of .ensures in
     let slotted = slot p in (
       answered p .judge-notification .ensures,
-      held-notified (whole s) (note s) (done p) _ _ slotted (written .entry-of .ensures),
-      c .before .before .before .before .before .write-side .ensures ∙ side-notified (whole s) (note s) (done p) one _ _ _ (w1 .writes-side1 .ensures ∙ row-writes-one (s .args .b) (s .args .n) _ row) (clock-time (s .args .b) (clock .clock-of .ensures)) slotted,
+      held-notified (whole s) (note s) (done p) _ _ slotted (entered .entry-of .ensures),
+      c .before .before .before .before .before .write-side .ensures ∙ side-notified (whole s) (note s) (done p) one _ _ _ (first .writes-side1 .ensures ∙ row-writes-one (s .args .b) (s .args .n) _ row) (clock-time (s .args .b) (clock .clock-of .ensures)) slotted,
       c .before .write-side2 .ensures ∙ side-notified (whole s) (note s) (done p) two _ _ _ (c .before .before .writes-side2 .ensures ∙ row-writes-two (s .args .b) (s .args .n) _ row) (clock-time (s .args .b) (clock .clock-of .ensures)) slotted,
     )
 
@@ -152,6 +161,8 @@ pub do-notification-spec : {M : Type 1} → statement M
 do-notification-spec =
     tie.close
     (tie.spec
+    cast-row-of
+    row-of-requires
     judge-notification-requires
     same-length
     same-length-2
@@ -159,8 +170,6 @@ do-notification-spec =
     returns
     cast-slot
     clock-of-requires
-    cast-row-of
-    row-of-requires
     entry-of-requires
     mul-held
     slice-write-held

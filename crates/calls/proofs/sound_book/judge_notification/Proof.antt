@@ -35,23 +35,23 @@ module _ (c : tie.After-checks-refusal) where
   start = c .before .before
 
   is-sound : sound (whole start) ≡ true
-  is-sound = start .pre
+  is-sound = start .pre .0
 
   checks : c .checks-refusal .result ≡ answer (checkRules (whole start .setting) (note start))
   checks = c .checks-refusal .ensures
 
 module _ (c : tie.After-late-refusal) where
   abbrev checked : tie.After-checks-refusal
-  checked = c .before .before .before .before .before .before
+  checked = c .before .before .before .before
 
-  kind : c .before .before .before .before .kind-of .result ≡ kindNumber (kindOf (whole (start checked)) (note (start checked)))
+  kind : c .before .before .kind-of .result ≡ kindNumber (kindOf (whole (start checked)) (note (start checked)))
   kind =
       let a = start checked .args in
-      c .before .before .before .before .kind-of .ensures ∙ sound-kind (a .b) (now (a .held)) (now (a .side1)) (now (a .side2)) (note (start checked)) (is-sound checked)
+      c .before .before .kind-of .ensures ∙ sound-kind (a .b) (now (a .held)) (now (a .side1)) (now (a .side2)) (note (start checked)) (is-sound checked)
 
-  type : c .before .before .row-of .result .amendment ≡ under (whole (start checked) .setting) (note (start checked)) .type
+  type : start checked .args .row .amendment ≡ under (whole (start checked) .setting) (note (start checked)) .type
   unfolding notificationOf
-  type = ap (λ (row : Authorisation). row .type) (c .before .before .row-of .ensures)
+  type = ap (λ (row : Authorisation). row .type) (start checked .pre .1)
 
   slot : c .before .slot-for .result ≡ slotFor (now (start checked .args .held)) (note (start checked) .identifier)
   unfolding notificationOf
@@ -60,8 +60,8 @@ module _ (c : tie.After-late-refusal) where
   late : answer (notificationRules (whole (start checked)) (note (start checked))) ≡ c .late-refusal .result
   late =
       let s = start checked in
-      late-answer (whole s) (note s) (is-sound checked) (sym (checks checked) ∙ c .before .before .before .before .before .if1 .left)
-      ∙ sym (c .late-refusal .ensures ∙ late-same (whole s) (note s) (c .before .before .before .before .kind-of .result) (c .before .before .row-of .result .amendment) (c .before .slot-for .result) kind type slot)
+      late-answer (whole s) (note s) (is-sound checked) (sym (checks checked) ∙ c .before .before .before .if1 .left)
+      ∙ sym (c .late-refusal .ensures ∙ late-same (whole s) (note s) (c .before .before .kind-of .result) (s .args .row .amendment) (c .before .slot-for .result) kind type slot)
 
 checks-refusal-requires : tie.Need-checks-refusal-requires
 checks-refusal-requires c κs = search needs
@@ -80,12 +80,6 @@ returns c =
 kind-of-requires : tie.Need-kind-of-requires
 kind-of-requires c κs = search needs
 
-cast-row-of : tie.Need-cast-row-of
-cast-row-of c = search needs
-
-row-of-requires : tie.Need-row-of-requires
-row-of-requires c κs = search needs
-
 slot-for-requires : tie.Need-slot-for-requires
 slot-for-requires c κs = search needs
 
@@ -101,8 +95,8 @@ returns-2 c =
     let s = start (checked p) in
     c .refused2 .ensures ∙ ap notifiedOf (sym (notified-refused (whole s) (note s) (p .late-refusal .result) (late p) (c .before .if2 .taken)))
 
-cast-t14 : tie.Need-cast-t14
-cast-t14 c =
+cast-t13 : tie.Need-cast-t13
+cast-t13 c =
     let p = c .before in
     let s = start (checked p) in
     let a = s .args in
@@ -125,11 +119,9 @@ judge-notification-spec =
     refused-requires
     returns
     kind-of-requires
-    cast-row-of
-    row-of-requires
     slot-for-requires
     late-refusal-requires
     refused-requires-2
     returns-2
-    cast-t14
+    cast-t13
     returns-3)
