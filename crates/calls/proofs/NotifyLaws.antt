@@ -1,14 +1,14 @@
 -- A notification's answer from its parts, and the tables that an accepted one leaves.
 use mathlib.Core.Bool.{Bool, true, false, not, cond, _&&_}
-use mathlib.Core.List.{List, [], _∷_, _++_}
+use mathlib.Core.List.{List, _++_}
 use mathlib.Core.Logic.{_≢_}
 use mathlib.Core.Path.{_≡_, refl, sym, ap, _∙_}
-use Prim.Native.Nat.{ℕ, suc, _≤_, _<_}
+use Prim.Native.Nat.{ℕ, suc}
 use native.Mathlib.Omega.{arith}
 use lib.Dec.{leb, ltb, eqb}
 use lib.IntN.{ℤ}
-use lib.ListN.{length, drop, set}
-use borrow.Author.Tests.{ltb-true, lt-leb, lt-ltb, le-ltb, eqb-true, ne-eqb}
+use lib.ListN.{length, set}
+use borrow.Author.Tests.{ltb-true, lt-leb, eqb-true, ne-eqb}
 use Rattle.words.specs.Lists.{find, mapAt}
 use Rattle.words.specs.Rules.{Rule, answer}
 use Rattle.laws.proofs.Cases.{on}

@@ -14,7 +14,7 @@ use Rattle.meaning.specs.Ledgers.{contracts}
 use Rattle.meaning.specs.Books as Meaning
 use Rattle.meaning.specs.Soundness.{sound}
 use Rattle.meaning.specs.PackedMessages.{readMessage}
-use Rattle.meaning.specs.PackedCalls.{callsOf, Step, stepped, Run, nothingRun, appliedAll}
+use Rattle.meaning.specs.PackedCalls.{Step, stepped, Run, nothingRun, appliedAll}
 use Rattle.meaning.proofs.OnlyClock.{OnlyClock, clock-alone, packed-moves-clock}
 use Rattle.meaning.proofs.PackedCalls.{read-takes, stepped-read, stepped-unread, unread-stays, takes-read, stepped-sound, no-room, bytes-ended, unreadable, one-more}
 use Rattle.setups.specs.declared.Setup.{Setup}

@@ -1,6 +1,6 @@
 // The settlement days of a book, their periods and the clock (meaning, Time.antt), by value.
 ghost use mathlib.Core.Path.{_≡_};
-ghost use Rattle.meaning.specs.Time.{periodsOfCode, periodsAt, isPeriodAt, gatesBefore, allGates, isOpenAt, hasDay, isPeriod, everyGateClosed, currentDay};
+ghost use Rattle.meaning.specs.Time.{periodsOfCode, periodsAt, isPeriodAt, gatesBefore, isOpenAt, hasDay, everyGateClosed, currentDay};
 ghost use Rattle.clock.specs.Structs.{timeOf};
 
 // The number of the first day, the first `days` codes, and the number of gates closed.

@@ -11,7 +11,6 @@ use Rattle.laws.proofs.Lists.{find-replicate}
 use Rattle.laws.proofs.Runs.{run-keeps}
 use Rattle.laws.proofs.Runs as Runs
 use Rattle.meaning.specs.Time.{isPeriod, periodsOn, withGateClosed}
-use Rattle.meaning.specs.Settings.{Setting}
 use Rattle.meaning.specs.Ledgers.{Sort, Side, emptyLedger}
 use Rattle.meaning.specs.Books.{Setup, openingRules, Book, openedBook}
 use Rattle.meaning.specs.Soundness.{sound}

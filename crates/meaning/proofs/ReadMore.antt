@@ -1,22 +1,22 @@
 -- Bytes that do not end too soon are read alike whatever comes behind them. So a stream may be read part by part: only 19 asks for more. Of a setup
 -- the longest that a head can name is enough.
-use mathlib.Core.Bool.{Bool, true, false}
+use mathlib.Core.Bool.{false}
 use mathlib.Core.List.{List, _++_}
 use mathlib.Core.Logic.{_≢_}
-use mathlib.Core.Path.{_≡_, refl, sym, ap, _∙_}
+use mathlib.Core.Path.{_≡_, sym, ap, _∙_}
 use Prim.Native.Nat.{ℕ, _+_, _*_, _≤_}
 use native.Mathlib.Omega.{arith}
 use lib.ListN.{length, getD, length-append}
 use lib.Seq.{take-length}
-use borrow.Author.Tests.{eq-eqb, ne-eqb, eqb-false, le-ltb, ltb-false}
+use borrow.Author.Tests.{ne-eqb, eqb-false, le-ltb, ltb-false}
 use Rattle.words.specs.Tests.{_<?_, _=?_}
 use Rattle.words.specs.Rules.{answer}
 use Rattle.words.specs.Fields.{fieldAt, total, readAll, bytesFor, padding}
 use Rattle.laws.proofs.Cases.{on}
 use Rattle.laws.proofs.Fields.{field-lt}
 use Rattle.laws.proofs.Padded.{front-field, front-values}
-use Rattle.meaning.specs.PackedMessages.{notificationLayout, layoutFor, kindIn, countIn, layoutIn, readingRules, readMessage, messageFrom, gate}
-use Rattle.meaning.specs.PackedSetups.{headLayout, setupLayoutFor, setupLayoutIn, setupIn, setupReadingRules, readSetup}
+use Rattle.meaning.specs.PackedMessages.{notificationLayout, layoutFor, kindIn, countIn, layoutIn, readingRules, readMessage}
+use Rattle.meaning.specs.PackedSetups.{headLayout, setupLayoutIn, setupIn, setupReadingRules, readSetup}
 use Rattle.meaning.proofs.LayoutSizes.{bits-setup}
 
 module _ (s later : List ℕ) where

@@ -1,6 +1,6 @@
 -- Document 01, "The sheet program": the lines that it prints for the bytes of its standard input.
 use mathlib.Core.List.{List, [], _∷_, _++_}
-use Prim.Native.Nat.{ℕ, suc, _+_, _%_, _^_}
+use Prim.Native.Nat.{ℕ, suc, _%_, _^_}
 use lib.IntN.{ℤ, pos}
 use lib.ListN.{length, drop}
 use Rattle.words.specs.Tests.{if_then_else_, _=?_, sameℤ}

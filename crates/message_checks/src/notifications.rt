@@ -3,7 +3,6 @@ use book::Book;
 use book::state;
 use limits::numbers;
 ghost use mathlib.Core.Bool.{not, _||_};
-ghost use mathlib.Core.List.{[]};
 ghost use mathlib.Core.Path.{_≡_};
 ghost use Prim.Native.Nat.{min};
 ghost use Rattle.words.specs.Tests.{_=?_, between, within};

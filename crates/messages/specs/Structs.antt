@@ -1,11 +1,10 @@
 -- The structs of `messages` and what they hold: each struct as meaning has it, and each thing of meaning as a struct, with zero in what it lacks.
-use mathlib.Core.List.{List, []}
-use Prim.Native.Nat.{ℕ, _+_, _-_, _*_, min}
-use lib.IntN.{ℤ, pos}
+use mathlib.Core.List.{List}
+use Prim.Native.Nat.{ℕ, _+_, _-_}
+use lib.IntN.{pos}
 use lib.ListN.{length, getD, replicate}
 use Rattle.words.specs.Tests.{if_then_else_, _<?_, _=?_}
 use Rattle.words.specs.Lists.{build}
-use Rattle.words.specs.Fields.{fieldAt, readAll, signedOf}
 use Rattle.meaning.specs.Ledgers.{contracts, identifierOf, originatorOf, referenceOf}
 use Rattle.meaning.specs.Messages as Meaning
 use Rattle.meaning.specs.Messages.{notification, nullification}

@@ -7,7 +7,6 @@ ghost use mathlib.Core.Path.{_≡_};
 ghost use Prim.Native.Nat.{suc, _-_};
 ghost use lib.ListN.{length, getD};
 ghost use Rattle.words.specs.Below.{someBelow};
-ghost use Rattle.words.specs.Tests.{_=?_};
 ghost use Rattle.meaning.specs.Time.{gatesBefore};
 ghost use Rattle.meaning.specs.Authorisations.{rowAt};
 ghost use Rattle.meaning.specs.Ledgers.{index};

@@ -1,13 +1,12 @@
 -- Texts written one after the other are one text, and a line stands where there is room for it.
 use mathlib.Core.Bool.{true, false}
-use mathlib.Core.List.{List, [], _∷_, _++_}
-use mathlib.Core.Path.{_≡_, refl, sym, ap, _∙_}
-use Prim.Native.Nat.{ℕ, suc, _+_, _≤_, _<_}
-use native.Mathlib.Nat.{add-suc, suc-add, add-zero}
+use mathlib.Core.List.{List, _++_}
+use mathlib.Core.Path.{_≡_, sym, ap, _∙_}
+use Prim.Native.Nat.{ℕ, _+_, _≤_, _<_}
 use native.Mathlib.Omega.{arith}
 use native.Mathlib.Numerals.{add-one}
-use lib.ListN.{length, set, getD, drop, length-append}
-use lib.Seq.{sets, length-sets, set-comm, drop-cons}
+use lib.ListN.{length, getD, drop, length-append}
+use lib.Seq.{sets, length-sets, drop-cons}
 use borrow.Author.Tests.{leb-true}
 use Rattle.meaning.specs.Decimals.{decimal}
 use Rattle.meaning.specs.SheetLines.{field, fields, newline}

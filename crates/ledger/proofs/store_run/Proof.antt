@@ -1,16 +1,15 @@
 -- After k turns the first k values are stored.
 use borrow.Author.Needs.{needs, sfits-of}
-use mathlib.Core.Path.{_≡_, refl, sym, ap, _∙_}
-use Prim.Native.Nat.{ℕ, _+_, _-_, _≤_, min}
+use mathlib.Core.Path.{_≡_, refl, sym, _∙_}
+use Prim.Native.Nat.{_+_, _-_, _≤_, min}
 use native.Mathlib.Omega.{arith}
 use denote.Ref.{now}
-use lib.IntN.{ℤ, pos}
-use lib.ListN.{length, getD, take, set, replicate, length-set, length-replicate, getD-replicate}
-use lib.Seq.{sets, length-sets, take-all}
+use lib.IntN.{pos}
+use lib.ListN.{length, getD, take, length-set}
+use lib.Seq.{sets, take-all}
 use mir.Facts.{toZ-ofZ}
 use Rattle.laws.proofs.Cases.{by-lt}
 use Rattle.laws.proofs.Stores.{sets-more, sets-inside}
-use Rattle.meaning.specs.Ledgers.{theMark}
 use Rattle.ledger.proofs.store_run.Statement.{statement}
 use Rattle.ledger.proofs.store_run.Tie as tie
 
