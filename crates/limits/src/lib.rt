@@ -1,5 +1,6 @@
 // The limits of document 01, each once and by name; the answer numbers beside them. A name in _WIDE is the same limit in a wider type.
 pub mod numbers; // numbers.rt: the answer numbers
+pub mod kinds; // kinds.rt: the numbers of kinds and types
 
 // "A book covers 1 to 8 consecutive settlement days"
 pub const MOST_DAYS: u8 = 8;

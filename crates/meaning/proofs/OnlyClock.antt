@@ -7,7 +7,7 @@ use lib.ListN.{drop}
 use Rattle.words.specs.Runs.{step, run}
 use Rattle.laws.proofs.Cases.{on}
 use Rattle.meaning.specs.Time.{withGateClosed}
-use Rattle.meaning.specs.Settings.{Setting, atClock}
+use Rattle.meaning.specs.Settings.{Setting}
 use Rattle.meaning.specs.Ledgers.{Sort, contracts}
 use Rattle.meaning.specs.Messages.{Message}
 use Rattle.meaning.specs.Books.{Book}
@@ -17,6 +17,11 @@ use Rattle.meaning.specs.PackedMessages.{Packed, readMessage}
 use Rattle.meaning.specs.PackedMessages as Packed
 use Rattle.meaning.specs.PackedCalls.{callsOf, callsIn}
 use Rattle.meaning.proofs.PackedCalls.{after-append}
+
+-- the setting with so many gates closed
+abbrev pub atClock : Setting → ℕ → Setting
+atClock s closed =
+    record { time = record { first = s .time .first; codes = s .time .codes; closed = closed }; accounts = s .accounts; rows = s .rows }
 
 -- the second is the first with another clock
 abbrev pub OnlyClock : Setting → Setting → Type 0

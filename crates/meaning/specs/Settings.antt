@@ -29,10 +29,6 @@ inForce s k D = between (rowAt (s .rows) k .first) (lastDayOf s k) D
 abbrev pub expired : Setting → ℕ → ℕ → Bool
 expired s k D = lastDayOf s k <? D
 
--- with so many gates closed; and after a gate
-abbrev pub atClock : Setting → ℕ → Setting
-atClock s closed =
-    record { time = record { first = s .time .first; codes = s .time .codes; closed = closed }; accounts = s .accounts; rows = s .rows }
-
+-- the setting after a gate
 abbrev pub afterGate : Setting → Setting
 afterGate s = record { time = withGateClosed (s .time); accounts = s .accounts; rows = s .rows }

@@ -1,6 +1,7 @@
 // What can be wrong with a notification (meaning, Notifications.antt): refusals 2 to 11, which need no table, for any book, sound or not; and 12 to 14.
 use book::Book;
 use book::state;
+use limits::kinds;
 use limits::numbers;
 ghost use mathlib.Core.Bool.{not, _||_};
 ghost use mathlib.Core.Path.{_≡_};
@@ -196,10 +197,10 @@ pub fn checks_refusal(b: Book, n: messages::Notification) -> u8
 pub fn late_refusal(kind: u8, amendment: u8, slot: usize, slots: usize) -> u8
     ensures { λ r. ⌜ r ≡ answer (lateRules kind amendment slot slots) ⌝ }
 {
-    if (kind == 2) & (amendment == 2) {
+    if (kind == kinds::REPLACEMENT) & (amendment == kinds::ONLY_ADDITIONAL) {
         return numbers::REPLACEMENT_NOT_ALLOWED;
     }
-    if (kind == 3) & (amendment == 1) {
+    if (kind == kinds::ADDITIONAL) & (amendment == kinds::ONLY_REPLACEMENTS) {
         return numbers::ADDITIONAL_NOT_ALLOWED;
     }
     if slots <= slot {

@@ -1,6 +1,7 @@
 // The kind of a notification (meaning, Notifications.antt): initial, replacement or additional.
 use book::Book;
 use book::state;
+use limits::kinds;
 use setups::authorisations;
 ghost use mathlib.Core.List.{[]};
 ghost use mathlib.Core.Path.{_≡_};
@@ -15,12 +16,6 @@ ghost use Rattle.messages.specs.Structs.{notificationOf};
 ghost use Rattle.setups.specs.Structs.{noAuthorisation, rowOf};
 ghost use Rattle.book.specs.Structs.{timeIn, rowsIn, originPlace, settingIn, bookOf};
 ghost use Rattle.notification_kinds.specs.Kinds.{Fits, Inside, statesPlace, periodsFrom, periodsWithin, SlotInside, fromFirst, fits, kindAnswer};
-
-const INITIAL: u8 = 1;
-
-const REPLACEMENT: u8 = 2;
-
-const ADDITIONAL: u8 = 3;
 
 // A slot, by its entry, holds another identifier of the same account 1 and account 2.
 fn is_other(
@@ -186,12 +181,12 @@ fn kind_in(b: Book, held: &[u32], side1: &[i32], side2: &[i32], n: messages::Not
 {
     let mine = state::row_of(b, n.authorisation as u32);
     if is_replacement(b, held, side1, side2, n, mine) {
-        return REPLACEMENT;
+        return kinds::REPLACEMENT;
     }
     if is_overlapped(b, held, side1, side2, n, mine) {
-        return ADDITIONAL;
+        return kinds::ADDITIONAL;
     }
-    INITIAL
+    kinds::INITIAL
 }
 
 // The tables have a place for each slot, day and period, and there are few.
