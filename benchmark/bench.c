@@ -216,10 +216,11 @@ static void print_times(double first, double second) {
     printf("%9.2f\n", first / second);
 }
 
-static void print_job(const char *name, void (*job)(worker *), size_t units) {
+static measured print_job(const char *name, void (*job)(worker *), size_t units) {
     measured m = measure(name, job, units);
     printf("%-52s", name);
     print_times(m.ours, m.twin);
+    return m;
 }
 
 static void print_growth(const char *name, size_t size, void (*job)(worker *), size_t units) {
@@ -254,6 +255,11 @@ static void take_traded_book(size_t its_slots, unsigned days, size_t messages) {
     take(trading(&setup, slots, messages));
 }
 
+static void take_long_notifications(ghendufika_setup setup) {
+    take_book(setup, 4, false);
+    take(long_notifications(&setup, 1000));
+}
+
 /* What a run is made of, as the twin sees it. */
 static void print_mixture(const char *name) {
     memset(twin_accepted, 0, sizeof twin_accepted);
@@ -274,6 +280,18 @@ static void print_reading(void) {
     print_job("its length", ask_lengths, run.messages);
     print_job("all its 109 fields, each asked apart", ask_all_fields, 1);
     print_job("1000 such, read and applied to 4 slots, each", apply_all, run.messages);
+}
+
+/* The same messages on two books of as many periods, so that the times differ by what a short and a long day cost. */
+static void print_long_notifications(void) {
+    take_long_notifications(setup_of(4, 8));
+    measured changing = print_job("1000 of 48 entries on days of 46, 48 and 50, each", apply_all, run.messages);
+    take_long_notifications(plain_setup_of(4, 8));
+    measured unchanging = print_job("the same 1000 on days of 48 only, each", apply_all, run.messages);
+    printf("%-52s", "  ours, with a short and a long day against without");
+    print_times(changing.ours, unchanging.ours);
+    printf("%-52s", "  the twin's, with them against without");
+    print_times(changing.twin, unchanging.twin);
 }
 
 static void print_runs(void) {
@@ -323,11 +341,14 @@ int main(int argc, char **argv) {
     if (ratios_only) rounds = 5;
     printf("%-52s%12s%12s%9s\n", "job", "ours ns", "C ns", "ratio");
     print_reading();
+    print_long_notifications();
     print_runs();
     print_questions();
     printf("\n%-52s%12s%12s%9s\n", "growth", "ours ns", "C ns", "ratio");
     print_all_growth();
     printf("\n");
+    take_long_notifications(setup_of(4, 8));
+    print_mixture("4 slots of 8 days");
     take_traded_book(16, 2, 1000);
     print_mixture("16 slots of 2 days");
     take_traded_book(256, 8, 1000);

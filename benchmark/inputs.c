@@ -34,6 +34,12 @@ ghendufika_setup setup_of(size_t slots, unsigned days) {
     return s;
 }
 
+ghendufika_setup plain_setup_of(size_t slots, unsigned days) {
+    ghendufika_setup s = setup_of(slots, days);
+    for (unsigned d = 0; d < days; d++) s.codes[d] = GHENDUFIKA_DAY_OF_48;
+    return s;
+}
+
 static run_of_messages room_for(size_t messages) {
     run_of_messages run = {.bytes = malloc(messages * MOST_MESSAGE_BYTES)};
     if (run.bytes == NULL) {
@@ -108,12 +114,30 @@ run_of_messages trading(const ghendufika_setup *s, size_t slots, size_t messages
     return run;
 }
 
+/* A notice of one of the first four identifiers, from either agent, with a volume for each of its first periods. */
+static struct message notice_of_four(const ghendufika_setup *s, unsigned entries) {
+    struct message m = notice(s, chance(4), 1 + chance(2), entries);
+    for (unsigned e = 0; e < entries; e++) m.notification.entry[e].volume = (int32_t)chance(2000000) - 1000000;
+    return m;
+}
+
 run_of_messages full_notifications(const ghendufika_setup *s, size_t messages) {
     run_of_messages run = room_for(messages);
     for (size_t k = 0; k < messages; k++) {
-        struct message m = notice(s, chance(4), 1 + chance(2), 50);
+        struct message m = notice_of_four(s, 50);
         m.notification.last_day = m.notification.first_day;
-        for (unsigned e = 0; e < 50; e++) m.notification.entry[e].volume = (int32_t)chance(2000000) - 1000000;
+        append(&run, &m);
+    }
+    return run;
+}
+
+run_of_messages long_notifications(const ghendufika_setup *s, size_t messages) {
+    run_of_messages run = room_for(messages);
+    for (size_t k = 0; k < messages; k++) {
+        struct message m = notice_of_four(s, 48);
+        struct notification *n = &m.notification;
+        n->first_day = s->first + chance(s->days - 1u);
+        if (chance(2) == 0) n->last_day = n->first_day + 1 + chance(s->days - 1u);
         append(&run, &m);
     }
     return run;

@@ -7,6 +7,9 @@
 /* A book of so many slots and days, with 64 accounts and 64 authorisations; small ones, of up to 16 slots, have 4 of each. */
 ghendufika_setup setup_of(size_t slots, unsigned days);
 
+/* The same with days of 48 periods only. */
+ghendufika_setup plain_setup_of(size_t slots, unsigned days);
+
 /* Packed messages, one after the other. */
 typedef struct {
     uint8_t *bytes;
@@ -22,5 +25,8 @@ run_of_messages trading(const ghendufika_setup *setup, size_t slots, size_t mess
 
 /* Notifications of 50 entries for the book's one day of 50 periods. */
 run_of_messages full_notifications(const ghendufika_setup *setup, size_t messages);
+
+/* Notifications of 48 entries over two or more of the book's days, half of them evergreen. They do not depend on how long the days are. */
+run_of_messages long_notifications(const ghendufika_setup *setup, size_t messages);
 
 #endif
