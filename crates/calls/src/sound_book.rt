@@ -5,22 +5,18 @@ use book::Book;
 use book::state;
 use messages::layouts;
 use setups::authorisations;
-ghost use mathlib.Core.Bool.{true, cond};
+ghost use mathlib.Core.Bool.{true};
 ghost use mathlib.Core.Path.{_≡_};
-ghost use Prim.Native.Nat.{ℕ, suc};
 ghost use Rattle.words.specs.Rules.{answer};
-ghost use Rattle.words.specs.Lists.{build, mapAt};
-ghost use Rattle.meaning.specs.Messages.{notification, nullification, volume};
+ghost use Rattle.meaning.specs.Messages.{notification, nullification};
 ghost use Rattle.meaning.specs.Authorisations.{rowAt};
 ghost use Rattle.meaning.specs.Soundness.{sound};
 ghost use Rattle.meaning.specs.Notifications.{notified};
 ghost use Rattle.meaning.specs.Calls.{message, refusal};
-ghost use Rattle.clock.specs.Structs.{timeOf};
 ghost use Rattle.messages.specs.Structs.{notificationOf, nullificationOf, messageOf};
 ghost use Rattle.setups.specs.Structs.{rowOf};
 ghost use Rattle.book.specs.Structs.{rowsIn, bookOf};
 ghost use Rattle.calls.specs.Answers.{afterCall, afterMessage, notifiedOf, messageDone};
-ghost use Rattle.message_effects.specs.Effects.{slotRule};
 
 // What a message did. With a refusal kind and slot are 0, and the book is as it came.
 pub(crate) struct Done {
@@ -69,22 +65,6 @@ pub(crate) fn judge_notification(
     }
 }
 
-// A side, where the notification writes it.
-fn write_side(side: &mut [i32], writes: bool, c: clock::Clock, slot: u8, n: messages::Notification)
-    ensures { λ r. ⌜ now (side .exit) ≡ cond writes (mapAt (slotRule (timeOf c) slot (n .first) (suc (n .last)) (build 50 (λ (p : ℕ). volume (notificationOf n .entries) (suc p)))) (now (side .entry))) (now (side .entry)) ⌝ }
-{
-    if writes {
-        message_effects::write_slot(
-            side,
-            c,
-            slot,
-            n.first,
-            n.last,
-            message_effects::volumes_of(n),
-        );
-    }
-}
-
 // The answer, and the three tables with what an accepted notification makes of them.
 pub(crate) fn do_notification(
     b: Book,
@@ -107,15 +87,10 @@ pub(crate) fn do_notification(
     let slot = told.slot as usize;
     let c = state::clock_of(b);
     held[slot] = ledger::slots::entry_of(n.originator, n.reference);
-    write_side(
+    message_effects::write_slot(
         side1,
-        authorisations::writes_side1(row, n.agent),
-        c,
-        slot as u8,
-        n,
-    );
-    write_side(
         side2,
+        authorisations::writes_side1(row, n.agent),
         authorisations::writes_side2(row, n.agent),
         c,
         slot as u8,

@@ -14,6 +14,12 @@ pub const PLAIN_DAY: u8 = 48;
 
 pub const LONG_DAY: u8 = 50;
 
+// Of a notification of several days, on a 46-period day 1 and 2 keep their number ("must drop its periods 3 and 4"), and on a 50-period day "1 to 4
+// stay" (02, A1).
+pub const KEPT_ON_A_SHORT_DAY: u8 = 2;
+
+pub const KEPT_ON_A_LONG_DAY: u8 = 4;
+
 // "slots times days times 50 volumes": every day has the places of a long one.
 pub const PLACES_A_DAY: usize = LONG_DAY as usize;
 

@@ -16,6 +16,7 @@ pub mod OurPackedCalls
 pub mod OurTable
 pub mod Places
 pub mod Clock
+pub mod Placed
 pub mod SetupRules
 pub mod Sound
 pub mod Standing

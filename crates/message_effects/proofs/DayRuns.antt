@@ -6,8 +6,8 @@ use Prim.Native.Nat.{ℕ, suc, _+_, _-_, _%_, _≤_, _<_, min}
 use native.Mathlib.Omega.{arith}
 use lib.Dec.{leb, ltb, eqb}
 use lib.IntN.{ℤ, pos}
-use lib.ListN.{length, getD, take, drop, replicate, length-take, length-drop, length-replicate, getD-replicate}
-use lib.Seq.{sets, getD-take, getD-drop}
+use lib.ListN.{length, getD, replicate, length-replicate, getD-replicate}
+use lib.Seq.{sets}
 use borrow.Author.Tests.{leb-true, ltb-true, le-leb, lt-leb, lt-ltb, le-ltb, eq-eqb, ne-eqb}
 use Rattle.words.specs.Lists.{mapAt}
 use Rattle.laws.proofs.Cases.{on, by-lt, by-eq, and-left, and-right, and-false, and-true}
@@ -106,11 +106,11 @@ open-here t d p h =
     (λ o. rw (le-ltb (t .closed) (gates + suc p) o, lt-leb (closedIn t d) p (omega arith)))))
     (λ w. rw (le-ltb p periods w) (sym (and-false (leb (closedIn t d) p)))))
 
-module _ (t : Time) (n slot d first until : ℕ) (volumes : List ℤ) (e : days t ≡ n) (hd : d < n) where
+module _ (t : Time) (n slot d first until : ℕ) (volumes : ℕ → ℕ → ℤ) (e : days t ≡ n) (hd : d < n) where
   rule-here : (j : ℕ) (old : ℤ) → baseOf n slot d ≤ j → j < baseOf n slot d + 50
       → slotRule t slot first until volumes j old
       ≡ cond (leb (closedIn t d) (j - baseOf n slot d) && ltb (j - baseOf n slot d) (periodsAt (t .codes) d) && leb first (dayNumber t d))
-      (cond (ltb (dayNumber t d) until) (getD volumes (j - baseOf n slot d) (pos 0)) theMark) old
+      (cond (ltb (dayNumber t d) until) (volumes (periodsAt (t .codes) d) (suc (j - baseOf n slot d))) theMark) old
   unfolding slotRule
   rule-here j old low high =
       let p = j - baseOf n slot d in
@@ -118,8 +118,7 @@ module _ (t : Time) (n slot d first until : ℕ) (volumes : List ℤ) (e : days 
       let s : slotAt n j ≡ slot = ap (slotAt n) at ∙ slot-here n slot {p = p} hd (omega arith) in
       let w : dayAt n j ≡ d = ap (dayAt n) at ∙ day-here n slot {p = p} hd (omega arith) in
       let q : periodAt j ≡ suc p = ap periodAt at ∙ period-here n slot {p = p} hd (omega arith) in
-      let z : suc p - 1 ≡ p = omega arith in
-      rw (e, s, w, q, eq-eqb slot slot refl, open-here t d p (omega arith), z)
+      rw (e, s, w, q, eq-eqb slot slot refl, open-here t d p (omega arith))
 
   rule-other : (j : ℕ) (old : ℤ) → eqb (slotAt n j) slot ≡ false → slotRule t slot first until volumes j old ≡ old
   unfolding slotRule
@@ -129,7 +128,7 @@ module _ (t : Time) (n slot d first until : ℕ) (volumes : List ℤ) (e : days 
   day-rule : (j : ℕ) (old : ℤ)
       → only (λ (k : ℕ). eqb (dayAt n k) d) (slotRule t slot first until volumes) j old
       ≡ cond (leb (baseOf n slot d + closedIn t d) j && ltb j (baseOf n slot d + closedIn t d + (periodsAt (t .codes) d - closedIn t d)) && leb first (dayNumber t d))
-      (cond (ltb (dayNumber t d) until) (getD volumes (j - baseOf n slot d) (pos 0)) theMark) old
+      (cond (ltb (dayNumber t d) until) (volumes (periodsAt (t .codes) d) (suc (j - baseOf n slot d))) theMark) old
   day-rule j old =
       let base = baseOf n slot d in
       let from = closedIn t d in
@@ -162,17 +161,14 @@ module _ (t : Time) (n slot d first until : ℕ) (volumes : List ℤ) (e : days 
         mapAt-is _ side side theMark refl
         (λ j w. sym (day-rule j (getD side j theMark) ∙ rw (lt-leb first (dayNumber t d) h, and-false _)))
 
-    -- a day before `until`
-    pub day-stored : first ≤ dayNumber t d → dayNumber t d < until → length volumes ≡ 50
-        → sets side (baseOf n slot d + closedIn t d) (take (periodsAt (t .codes) d - closedIn t d) (drop (closedIn t d) volumes))
-        ≡ mapAt (only (λ (k : ℕ). eqb (dayAt n k) d) (slotRule t slot first until volumes)) side
-    day-stored low high full =
+    -- a day before `until`: the volumes of its open periods
+    pub day-stored : first ≤ dayNumber t d → dayNumber t d < until → (part : List ℤ) → length part ≡ periodsAt (t .codes) d - closedIn t d
+        → ((k : ℕ) → k < periodsAt (t .codes) d - closedIn t d → getD part k (pos 0) ≡ volumes (periodsAt (t .codes) d) (suc (closedIn t d + k)))
+        → sets side (baseOf n slot d + closedIn t d) part ≡ mapAt (only (λ (k : ℕ). eqb (dayAt n k) d) (slotRule t slot first until volumes)) side
+    day-stored low high part size given =
         let base = baseOf n slot d in
         let from = closedIn t d in
         let periods = periodsAt (t .codes) d in
-        let few = periods-le (t .codes) d in
-        let part = take (periods - from) (drop from volumes) in
-        let size : length part ≡ periods - from = simp (length-take, length-drop) (omega arith) in
         sets-map side (base + from) part (pos 0)
         ∙ mapAt-same _ _ side theMark
         (λ j w.
@@ -184,7 +180,7 @@ module _ (t : Time) (n slot d first until : ℕ) (volumes : List ℤ) (e : days 
         let after = leb-true (base + from) j (and-left (leb (base + from) j) (ltb j (base + from + (periods - from))) q) in
         let before = ltb-true j (base + from + (periods - from)) (and-right (leb (base + from) j) (ltb j (base + from + (periods - from))) q) in
         let z : from + (j - (base + from)) ≡ j - base = omega arith in
-        rw q (sym (getD-take (periods - from) (drop from volumes) (j - (base + from)) (pos 0) (omega arith) ∙ getD-drop from volumes (j - (base + from)) (pos 0) ∙ ap (λ (k : ℕ). getD volumes k (pos 0)) z)))
+        rw q (sym (given (j - (base + from)) (omega arith) ∙ ap (λ (k : ℕ). volumes periods (suc k)) z)))
         (λ q. rw q)))))
 
     -- a day from `until` on
@@ -223,7 +219,7 @@ module _ (n : ℕ) (f : ℕ → ℤ → ℤ) (side : List ℤ) where
       (λ j. below-next (dayAt n j) d)
 
 -- when every day is done
-module _ (t : Time) (n slot first until : ℕ) (volumes : List ℤ) (e : days t ≡ n) where
+module _ (t : Time) (n slot first until : ℕ) (volumes : ℕ → ℕ → ℤ) (e : days t ≡ n) where
   rule-past : (j : ℕ) (old : ℤ) → ltb (dayAt n j) n ≡ false → slotRule t slot first until volumes j old ≡ old
   unfolding slotRule isPeriodAt
   rule-past j old h = rw (e, h, and-false (eqb (slotAt n j) slot))

@@ -3,22 +3,22 @@
 use mathlib.Core.Bool.{Bool, true, false, cond, _&&_}
 use mathlib.Core.List.{List}
 use mathlib.Core.Path.{_≡_, refl, sym, ap, _∙_}
-use Prim.Native.Nat.{ℕ, zero, suc, _+_, _-_, _≤_, _<_}
+use Prim.Native.Nat.{ℕ, zero, suc, _+_, _≤_, _<_}
 use native.Mathlib.Omega.{arith}
 use lib.Dec.{leb, ltb, eqb}
-use lib.IntN.{ℤ, pos}
+use lib.IntN.{ℤ}
 use lib.ListN.{length, getD, List·getD-eq-default}
 use lib.Seq.{getD-set-same, getD-set-other}
 use borrow.Author.Tests.{ltb-false, le-ltb, le-leb, lt-leb, eq-eqb, ne-eqb}
-use Rattle.words.specs.Lists.{build, mapAt, find}
+use Rattle.words.specs.Tests.{_=?_}
+use Rattle.words.specs.Lists.{mapAt, find}
 use Rattle.words.specs.Rules.{answer}
-use Rattle.laws.proofs.Builds.{getD-build}
 use Rattle.laws.proofs.Cases.{on, by-lt, by-eq, and-false, and-true}
 use Rattle.laws.proofs.Lists.{mapAt-is, mapAt-same}
 use Rattle.meaning.specs.Time.{Time, periodsAt, days, dayNumber, isPeriodAt, isOpenAt}
 use Rattle.meaning.specs.Authorisations.{Authorisation}
 use Rattle.meaning.specs.Ledgers.{contracts, theMark, slotAt, dayAt, periodAt, slotFor, holds, Side}
-use Rattle.meaning.specs.Messages.{Notification, Nullification, Message, notification, nullification, writes, about, from, leaves, sourceOf, volume, volumeOn, says, reaches, rewritten, heldAfter}
+use Rattle.meaning.specs.Messages.{Entry, Notification, Nullification, Message, notification, nullification, writes, about, from, leaves, volumeOn, says, reaches, rewritten, heldAfter}
 use Rattle.meaning.specs.Books.{Book}
 use Rattle.meaning.specs.Notifications.{notificationRules}
 use Rattle.meaning.proofs.Sound.{parts}
@@ -28,6 +28,8 @@ use Rattle.meaning.proofs.Held.{Room, Apart, with, held-is, unheld-is}
 use Rattle.book.specs.declared.Book as Struct
 use Rattle.book.specs.Structs.{timeIn, rowsIn}
 use Rattle.message_effects.specs.Effects.{only, slotRule, pairIn, nullified, pairBlanked}
+use Rattle.message_effects.specs.Placing.{laidVolume, laidOut}
+use Rattle.message_effects.proofs.Rows.{ownVolumes, laid-given}
 use Rattle.message_effects.proofs.DayRuns.{only-is, only-id, only-none, only-more, only-all, below-not-equal, below-next}
 
 -- what a message makes of each place
@@ -42,25 +44,22 @@ unfolding rewritten placeRule
 rewritten-rule rows t m held σ table = refl
 
 -- the volumes and the day from which on the mark stands are what the message leaves to be said
-abbrev pub Gives : Message contracts → ℕ → List ℤ → Type 0
-Gives m until volumes =
-    (D periods period : ℕ) → 1 ≤ period → period ≤ 50 → cond (ltb D until) (getD volumes (period - 1) (pos 0)) theMark ≡ says (leaves m) D periods period
+abbrev pub Gives : Message contracts → ℕ → (ℕ → ℕ → ℤ) → Type 0
+Gives m until volumes = (D periods period : ℕ) → cond (ltb D until) (volumes periods period) theMark ≡ says (leaves m) D periods period
 
 not-reached : (t : Time) (m : Message contracts) (d period : ℕ) → isPeriodAt (t .codes) d period ≡ false → reaches t m d period ≡ false
 unfolding reaches
 not-reached t m d period p = rw p
 
-module _ (t : Time) (m : Message contracts) (until : ℕ) (volumes : List ℤ) (gives : Gives m until volumes) where
+module _ (t : Time) (m : Message contracts) (until : ℕ) (volumes : ℕ → ℕ → ℤ) (gives : Gives m until volumes) where
   -- a place by its day and period, in a slot that the message is about or not
   place-same : (own : Bool) (d period : ℕ) (old : ℤ)
       → cond (own && reaches t m d period) (says (leaves m) (dayNumber t d) (periodsAt (t .codes) d) period) old
       ≡ cond (own && (isPeriodAt (t .codes) d period && isOpenAt (t .codes) (t .closed) d period && leb (from m) (dayNumber t d)))
-      (cond (ltb (dayNumber t d) until) (getD volumes (period - 1) (pos 0)) theMark) old
+      (cond (ltb (dayNumber t d) until) (volumes (periodsAt (t .codes) d) period) theMark) old
   place-same own d period old =
       on (isPeriodAt (t .codes) d period)
-      (λ p.
-      let w = is-period (t .codes) d period p in
-      rw (reaches-is t m d period p, p, gives (dayNumber t d) (periodsAt (t .codes) d) period (w .low) (w .most)))
+      (λ p. rw (reaches-is t m d period p, p, gives (dayNumber t d) (periodsAt (t .codes) d) period))
       (λ p. rw (not-reached t m d period p, p, and-false own))
 
   -- where the message is about a slot's identifier exactly in this slot, its rewriting is the slot's
@@ -70,7 +69,7 @@ module _ (t : Time) (m : Message contracts) (until : ℕ) (volumes : List ℤ) (
   unfolding placeRule slotRule
   place-slot rows held σ slot j old e = rw e (place-same (eqb (slotAt (days t) j) slot) (dayAt (days t) j) (periodAt j) old)
 
-other-slot : (t : Time) (slot first until : ℕ) (volumes : List ℤ) (j : ℕ) (old : ℤ) → eqb (slotAt (days t) j) slot ≡ false
+other-slot : (t : Time) (slot first until : ℕ) (volumes : ℕ → ℕ → ℤ) (j : ℕ) (old : ℤ) → eqb (slotAt (days t) j) slot ≡ false
     → slotRule t slot first until volumes j old ≡ old
 unfolding slotRule
 other-slot t slot first until volumes j old e = rw e
@@ -122,15 +121,30 @@ unfolding about
 about-entry rows n σ zero = rw (ne-eqb 0 (suc (n .identifier)) (λ e. omega arith))
 about-entry rows n σ (suc i) = ap (λ (b : Bool). b && writes rows n σ) (same-suc i (n .identifier))
 
--- what it gives for each period
-abbrev pub volumesGiven : Notification contracts → List ℤ
-volumesGiven n = build 50 (λ (p : ℕ). volume (n .entries) (suc p))
+-- what it gives for a period of a day that has so many
+abbrev pub volumesGiven : Notification contracts → ℕ → ℕ → ℤ
+volumesGiven n = volumeOn (n .first =? n .last) (n .entries)
 
 notification-gives : (n : Notification contracts) → Gives (notification n) (suc (n .last)) (volumesGiven n)
-unfolding says leaves volumeOn sourceOf
-notification-gives n D periods period low high =
-    let z : suc (period - 1) ≡ period = omega arith in
-    rw (getD-build 50 (λ (p : ℕ). volume (n .entries) (suc p)) (pos 0) (period - 1) (omega arith), z)
+unfolding says leaves
+notification-gives n D periods period = refl
+
+-- laid out or not, the same stands at every place
+module _ (t : Time) (slot first until : ℕ) (single : Bool) (entries : List (Entry contracts)) where
+  laid-place : (j : ℕ) (old : ℤ)
+      → slotRule t slot first until (laidVolume (laidOut t single (ownVolumes entries))) j old ≡ slotRule t slot first until (volumeOn single entries) j old
+  unfolding slotRule
+  laid-place j old =
+      let d = dayAt (days t) j in
+      on (isPeriodAt (t .codes) d (periodAt j))
+      (λ p.
+      let w = is-period (t .codes) d (periodAt j) p in
+      rw (laid-given t single entries d (periodAt j) (w .day) (w .low) (w .high)))
+      (λ p. rw (p, and-false (eqb (slotAt (days t) j) slot)))
+
+  pub laid-side : (side : List ℤ)
+      → mapAt (slotRule t slot first until (laidVolume (laidOut t single (ownVolumes entries)))) side ≡ mapAt (slotRule t slot first until (volumeOn single entries)) side
+  laid-side side = mapAt-same _ _ side theMark (λ j h. laid-place j (getD side j theMark))
 
 module _ (rows : List Authorisation) (t : Time) (n : Notification contracts) (held : List ℕ) (σ : Side) (table : List ℤ) where
   -- a side that it writes: the slot of its identifier is rewritten
@@ -174,9 +188,9 @@ module _ (b : Book contracts) (n : Notification contracts) (accepted : answer (n
 
 -- ---- the slots of a nullification's pair
 
-nullification-gives : (x : Nullification) (volumes : List ℤ) → Gives (nullification x) 0 volumes
+nullification-gives : (x : Nullification) (volumes : ℕ → ℕ → ℤ) → Gives (nullification x) 0 volumes
 unfolding says leaves
-nullification-gives x volumes D periods period low high = rw (le-ltb D 0 (omega arith))
+nullification-gives x volumes D periods period = rw (le-ltb D 0 (omega arith))
 
 module _ (rows : List Authorisation) (t : Time) (x : Nullification) (held : List ℕ) (σ : Side) where
   about-pair : (entry : ℕ) → holds (λ (i : ℕ). about {K = contracts} rows (nullification x) i σ) entry ≡ pairIn rows (x .account) (x .other) entry
@@ -198,7 +212,7 @@ module _ (rows : List Authorisation) (t : Time) (x : Nullification) (held : List
         (λ j h. below-not-equal (slotAt (days t) j) s h)
         (λ j. below-next (slotAt (days t) j) s)
 
-    pub pair-blanked : (s : ℕ) (volumes l1 l2 : List ℤ) (r : Bool)
+    pub pair-blanked : (s : ℕ) (volumes : ℕ → ℕ → ℤ) (l1 l2 : List ℤ) (r : Bool)
         → l1 ≡ mapAt (only (λ (j : ℕ). ltb (slotAt (days t) j) s) (placeRule rows t (nullification x) held σ)) side
         → r ≡ pairIn rows (x .account) (x .other) (getD held s 0) → r ≡ true → l2 ≡ mapAt (slotRule t s (x .first) 0 volumes) l1
         → l2 ≡ mapAt (only (λ (j : ℕ). ltb (slotAt (days t) j) (s + 1)) (placeRule rows t (nullification x) held σ)) side

@@ -1,6 +1,9 @@
-// What an accepted message makes of one side's table (meaning, Messages.antt): a slot's open places from a first day on, written by day runs.
+// What an accepted message makes of the sides' tables (meaning, Messages.antt): a slot's open places from a first day on, written by day runs.
+mod placing; // placing.rt: a notification's volumes on the days of each length
+
 use book::Book;
 use book::state;
+ghost use mathlib.Core.Bool.{cond};
 ghost use mathlib.Core.Path.{_≡_};
 ghost use Prim.Native.Nat.{ℕ, suc, _-_, _≤_, min};
 ghost use lib.ListN.{length};
@@ -8,15 +11,16 @@ ghost use Rattle.words.specs.Tests.{_=?_};
 ghost use Rattle.words.specs.Lists.{build, mapAt};
 ghost use Rattle.meaning.specs.Time.{periodsAt, gatesBefore};
 ghost use Rattle.meaning.specs.Ledgers.{dayAt, Side};
-ghost use Rattle.meaning.specs.Messages.{volume, rewritten};
+ghost use Rattle.meaning.specs.Messages.{volume, volumeOn, rewritten};
 ghost use Rattle.messages.specs.Structs.{notificationOf};
 ghost use Rattle.setups.specs.Structs.{rowsOf};
 ghost use Rattle.clock.specs.Structs.{timeOf};
 ghost use Rattle.book.specs.Structs.{timeIn};
+ghost use Rattle.message_effects.specs.Placing.{laidVolume};
 ghost use Rattle.message_effects.specs.Effects.{only, slotRule, DayInside, pairIn, nullified, pairBlanked};
 
-// The volume that a notification gives for each period. From the last entry down, so that a period's first entry stands.
-pub fn volumes_of(n: messages::Notification) -> [i32; limits::PLACES_A_DAY]
+// The volume that a notification gives for each of its periods. From the last entry down, so that a period's first entry stands.
+fn volumes_of(n: messages::Notification) -> [i32; limits::PLACES_A_DAY]
     ensures { λ r. ⌜ r ≡ build 50 (λ (p : ℕ). volume (notificationOf n .entries) (suc p)) ⌝ }
 {
     let mut volumes: [i32; limits::PLACES_A_DAY] = [0; limits::PLACES_A_DAY];
@@ -57,10 +61,10 @@ fn write_day(
     d: u8,
     first: u16,
     until: u32,
-    volumes: &[i32],
+    laid: &[i32],
 )
-    requires { ⌜ DayInside d (c .days) (length (now volumes)) ⌝ }
-    ensures { λ r. ⌜ now (side .exit) ≡ mapAt (only (λ (j : ℕ). dayAt (c .days) j =? d) (slotRule (timeOf c) slot first until (now (volumes .entry)))) (now (side .entry)) ⌝ }
+    requires { ⌜ DayInside d (c .days) (length (now laid)) ⌝ }
+    ensures { λ r. ⌜ now (side .exit) ≡ mapAt (only (λ (j : ℕ). dayAt (c .days) j =? d) (slotRule (timeOf c) slot first until (laidVolume (now (laid .entry))))) (now (side .entry)) ⌝ }
 {
     let day = c.first as u32 + d as u32;
     if day < first as u32 {
@@ -68,38 +72,64 @@ fn write_day(
     }
     let base = ledger::place_of(slot, c.days, d, 0);
     let closed = closed_on(c, d);
-    let periods = clock::periods_at(c, d) as usize;
+    let periods = clock::periods_at(c, d);
+    let open = periods as usize - closed;
     if day < until {
-        ledger::store_run(side, base + closed, &volumes[closed..periods]);
+        let from = placing::laid_from(periods) + closed;
+        ledger::store_run(side, base + closed, &laid[from..from + open]);
         return;
     }
-    ledger::blank_run(side, base + closed, periods - closed);
+    ledger::blank_run(side, base + closed, open);
 }
 
-// Every day of a slot: the volumes on the days before `until`, and the mark from there on.
-fn write_days(side: &mut [i32], c: clock::Clock, slot: u8, first: u16, until: u32, volumes: &[i32])
-    requires { ⌜ length (now volumes) ≡ 50 ⌝ }
-    ensures { λ r. ⌜ now (side .exit) ≡ mapAt (slotRule (timeOf c) slot first until (now (volumes .entry))) (now (side .entry)) ⌝ }
+// Every day of a slot: what is laid out for it on the days before `until`, and the mark from there on.
+fn write_days(side: &mut [i32], c: clock::Clock, slot: u8, first: u16, until: u32, laid: &[i32])
+    requires { ⌜ length (now laid) ≡ 150 ⌝ }
+    ensures { λ r. ⌜ now (side .exit) ≡ mapAt (slotRule (timeOf c) slot first until (laidVolume (now (laid .entry)))) (now (side .entry)) ⌝ }
 {
     let mut d: u8 = 0;
     while d < c.days {
-        write_day(side, c, slot, d, first, until, volumes);
+        write_day(side, c, slot, d, first, until, laid);
         d += 1;
     }
 }
 
-// A notification's slot: its volumes to its last day, and the mark after it.
-pub fn write_slot(
+// A side, where the notification writes it: what is laid out to its last day, and the mark after it.
+fn write_side(
     side: &mut [i32],
+    writes: bool,
     c: clock::Clock,
     slot: u8,
     first: u16,
     last: u16,
-    volumes: [i32; limits::PLACES_A_DAY],
+    laid: &[i32],
 )
-    ensures { λ r. ⌜ now (side .exit) ≡ mapAt (slotRule (timeOf c) slot first (suc last) volumes) (now (side .entry)) ⌝ }
+    requires { ⌜ length (now laid) ≡ 150 ⌝ }
+    ensures { λ r. ⌜ now (side .exit) ≡ cond writes (mapAt (slotRule (timeOf c) slot first (suc last) (laidVolume (now (laid .entry)))) (now (side .entry))) (now (side .entry)) ⌝ }
 {
-    write_days(side, c, slot, first, last as u32 + 1, &volumes);
+    if writes {
+        write_days(side, c, slot, first, last as u32 + 1, laid);
+    }
+}
+
+// A notification's slot, on the sides that it writes. Its volumes are laid out once for both.
+pub fn write_slot(
+    side1: &mut [i32],
+    side2: &mut [i32],
+    writes1: bool,
+    writes2: bool,
+    c: clock::Clock,
+    slot: u8,
+    n: messages::Notification,
+)
+    ensures { λ r. do
+      let rule = slotRule (timeOf c) slot (n .first) (suc (n .last)) (volumeOn (n .first =? n .last) (notificationOf n .entries))
+      ⌜ (now (side1 .exit) ≡ cond writes1 (mapAt rule (now (side1 .entry))) (now (side1 .entry))) × (now (side2 .exit) ≡ cond writes2 (mapAt rule (now (side2 .entry))) (now (side2 .entry))) ⌝ }
+{
+    let volumes = volumes_of(n);
+    let laid = placing::laid_out(c, n.first == n.last, &volumes);
+    write_side(side1, writes1, c, slot, n.first, n.last, &laid);
+    write_side(side2, writes2, c, slot, n.first, n.last, &laid);
 }
 
 // A slot's entry holds an identifier whose originating authorisation is between the two accounts, in either order.
@@ -120,7 +150,7 @@ fn blank_slots(side: &mut [i32], held: &[u32], b: Book, account: u8, other: u8, 
     ensures { λ r. ⌜ ((σ : Side) → now (side .exit) ≡ rewritten (rowsOf (b .setup .authorisations) (b .setup .rows)) (timeIn b) (nullified account other first) (now (held .entry)) σ (now (side .entry))) ⌝ }
 {
     let c = state::clock_of(b);
-    let unused: [i32; limits::PLACES_A_DAY] = [0; limits::PLACES_A_DAY];
+    let unused: [i32; placing::LAID_OUT] = [0; placing::LAID_OUT];
     let mut s: usize = 0;
     while s < held.len() {
         let entry = held[s];

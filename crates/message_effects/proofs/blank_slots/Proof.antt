@@ -14,6 +14,7 @@ use Rattle.meaning.specs.Ledgers.{slotAt, Side}
 use Rattle.meaning.specs.Messages.{Nullification}
 use Rattle.setups.specs.Structs.{rowsOf}
 use Rattle.book.specs.Structs.{timeIn}
+use Rattle.message_effects.specs.Placing.{laidVolume}
 use Rattle.message_effects.specs.Effects.{only, slotRule, nullified}
 use Rattle.book.proofs.StateLaws.{clock-time}
 use Rattle.message_effects.proofs.EffectLaws.{placeRule, pairs-none, pair-blanked, pair-other, pairs-all}
@@ -69,7 +70,7 @@ loop-again c =
     let t = timeIn (a .b) in
     let x : Nullification = record { account = a .account; other = a .other; first = a .first } in
     let pair = c .before .of-pair in
-    let zeros = replicate 50 (pos 0) in
+    let zeros = laidVolume (replicate 150 (pos 0)) in
     ⊎-elim
     (λ w.
     let blanked : w .3 .last .0 ≡ mapAt (slotRule t (l .s) (a .first) 0 zeros) (l .side) =

@@ -10,17 +10,18 @@ use Rattle.words.specs.Lists.{mapAt}
 use Rattle.meaning.specs.Ledgers.{dayAt}
 use Rattle.clock.specs.Structs.{timeOf}
 use Rattle.laws.proofs.Builds.{length-build}
+use Rattle.message_effects.specs.Placing.{laidVolume}
 use Rattle.message_effects.proofs.DayRuns.{days-none, days-more, days-all}
 use Rattle.message_effects.specs.Effects.{only, slotRule}
 use Rattle.message_effects.proofs.write_days.Statement.{statement}
 use Rattle.message_effects.proofs.write_days.Tie as tie
 
 abbrev Inv-loop : tie.InvT-loop
-Inv-loop side₀ c slot first until volumes d₀ side d =
-    (d ≤ c .days) × (length side ≡ length side₀) × (side ≡ mapAt (only (λ (j : ℕ). ltb (dayAt (c .days) j) d) (slotRule (timeOf c) slot first until volumes)) side₀)
+Inv-loop side₀ c slot first until laid d₀ side d =
+    (d ≤ c .days) × (length side ≡ length side₀) × (side ≡ mapAt (only (λ (j : ℕ). ltb (dayAt (c .days) j) d) (slotRule (timeOf c) slot first until (laidVolume laid))) side₀)
 
 abbrev μ-loop : tie.MeasureT-loop
-μ-loop side₀ c slot first until volumes d₀ side d = c .days - d
+μ-loop side₀ c slot first until laid d₀ side d = c .days - d
 
 loop-holds : tie.Need-loop-holds Inv-loop μ-loop
 loop-holds c = (omega arith, refl, days-none (c .args .c .days) _ (now (c .args .side)))
@@ -48,7 +49,7 @@ returns c =
     let a = c .before .before .before .args in
     let l = c .before .before .loop in
     let e : l .d ≡ a .c .days = omega arith in
-    rw e at (l .inv .2) ∙ days-all (timeOf (a .c)) (a .c .days) (a .slot) (a .first) (a .until) (now (a .volumes)) (length-build (a .c .days) _) (now (a .side))
+    rw e at (l .inv .2) ∙ days-all (timeOf (a .c)) (a .c .days) (a .slot) (a .first) (a .until) (laidVolume (now (a .laid))) (length-build (a .c .days) _) (now (a .side))
 
 pub write-days-spec : {M : Type 1} → statement M
 write-days-spec =

@@ -112,24 +112,16 @@ slice-write-held c =
 writes-side1-requires : tie.Need-writes-side1-requires
 writes-side1-requires c κs = search needs
 
-cast-write-side : tie.Need-cast-write-side
-cast-write-side c =
-    let accepted : tie.Else1 = search in
-    omega (arith, slot-few accepted)
-
-write-side-requires : tie.Need-write-side-requires
-write-side-requires c κs = search needs
-
 writes-side2-requires : tie.Need-writes-side2-requires
 writes-side2-requires c κs = search needs
 
-cast-write-side-2 : tie.Need-cast-write-side-2
-cast-write-side-2 c =
+cast-write-slot : tie.Need-cast-write-slot
+cast-write-slot c =
     let accepted : tie.Else1 = search in
     omega (arith, slot-few accepted)
 
-write-side-requires-2 : tie.Need-write-side-requires-2
-write-side-requires-2 c κs = search needs
+write-slot-requires : tie.Need-write-slot-requires
+write-slot-requires c κs = search needs
 
 same-length-4 : tie.Need-same-length-4
 same-length-4 c = search needs
@@ -143,6 +135,8 @@ same-length-6 c = search needs
 returns-2 : tie.Need-returns-2
 unfolding notificationOf
 returns-2 c =
+    let written : tie.After-write-slot = search in
+    let second : tie.After-writes-side2 = search in
     let first : tie.After-writes-side1 = search in
     let entered : tie.After-entry-of = search in
     let clock : tie.After-clock-of = search in
@@ -150,11 +144,12 @@ returns-2 c =
     let read : tie.After-row-of = search in
     let s = begun p in
     let row = read .row-of .ensures in
-    let slotted = slot p in (
+    let slotted = slot p in
+    let timed = clock-time (s .args .b) (clock .clock-of .ensures) in (
       answered p .judge-notification .ensures,
       held-notified (whole s) (note s) (done p) _ _ slotted (entered .entry-of .ensures),
-      c .before .before .before .before .before .write-side .ensures ∙ side-notified (whole s) (note s) (done p) one _ _ _ (first .writes-side1 .ensures ∙ row-writes-one (s .args .b) (s .args .n) _ row) (clock-time (s .args .b) (clock .clock-of .ensures)) slotted,
-      c .before .write-side2 .ensures ∙ side-notified (whole s) (note s) (done p) two _ _ _ (c .before .before .writes-side2 .ensures ∙ row-writes-two (s .args .b) (s .args .n) _ row) (clock-time (s .args .b) (clock .clock-of .ensures)) slotted,
+      written .write-slot .ensures .0 ∙ side-notified (whole s) (note s) (done p) one _ _ _ (first .writes-side1 .ensures ∙ row-writes-one (s .args .b) (s .args .n) _ row) timed slotted,
+      written .write-slot .ensures .1 ∙ side-notified (whole s) (note s) (done p) two _ _ _ (second .writes-side2 .ensures ∙ row-writes-two (s .args .b) (s .args .n) _ row) timed slotted,
     )
 
 pub do-notification-spec : {M : Type 1} → statement M
@@ -174,11 +169,9 @@ do-notification-spec =
     mul-held
     slice-write-held
     writes-side1-requires
-    cast-write-side
-    write-side-requires
     writes-side2-requires
-    cast-write-side-2
-    write-side-requires-2
+    cast-write-slot
+    write-slot-requires
     same-length-4
     same-length-5
     same-length-6
