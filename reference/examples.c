@@ -1,5 +1,6 @@
 /*
- * Examples from the paper's table P1 to P13 and from "Packed messages".
+ * Examples from the paper's table P1 to P13, from change request A1 and from
+ * "Packed messages".
  *
  *   examples      checks them; exits non-zero if one fails
  *   examples p1   writes the packed P1 story of "The sheet program"
@@ -48,18 +49,31 @@ static void open_table(void)
     CHECK(sound_book(&book));
 }
 
-/* Sends a notification of one entry (none where the period is 0), packed and
- * read again on the way. */
+/* Sends a notification, packed and read again on the way. */
+static enum answer send_packed(const struct notification *n, size_t bytes_expected)
+{
+    struct message message = {.kind = NOTIFICATION, .notification = *n};
+    struct message read;
+    uint8_t bytes[MOST_MESSAGE_BYTES];
+    size_t used;
+    size_t length = pack_message(&message, bytes);
+
+    CHECK(length == bytes_expected);
+    CHECK(read_message(bytes, length, &read, &used) == DONE);
+    CHECK(used == length);
+
+    enum answer answer = notify(&book, &read.notification, &accepted);
+
+    CHECK(sound_book(&book));
+    return answer;
+}
+
+/* Sends a notification of one entry (none where the period is 0). */
 static enum answer send(unsigned authorisation, unsigned agent, unsigned originator,
                         unsigned reference, unsigned first, unsigned last, unsigned period,
                         int32_t volume)
 {
-    struct message message = {.kind = NOTIFICATION};
-    struct message read;
-    uint8_t bytes[MOST_MESSAGE_BYTES];
-    size_t used;
-
-    message.notification = (struct notification){
+    struct notification n = {
         .authorisation = authorisation,
         .agent = agent,
         .key = table_setup.authorisation[authorisation].key,
@@ -71,16 +85,7 @@ static enum answer send(unsigned authorisation, unsigned agent, unsigned origina
         .entry = {{period, volume}},
     };
 
-    size_t length = pack_message(&message, bytes);
-
-    CHECK(length == (period == 0 ? 12u : 16u));
-    CHECK(read_message(bytes, length, &read, &used) == DONE);
-    CHECK(used == length);
-
-    enum answer answer = notify(&book, &read.notification, &accepted);
-
-    CHECK(sound_book(&book));
-    return answer;
+    return send_packed(&n, period == 0 ? 12 : 16);
 }
 
 static int64_t total(unsigned account, unsigned day, unsigned period)
@@ -109,17 +114,22 @@ static struct mark mark(unsigned account, unsigned day, unsigned period)
     return seen;
 }
 
+static bool nothing_stands_on_side(unsigned originator, unsigned reference, unsigned side,
+                                   unsigned day)
+{
+    struct row row;
+
+    CHECK(ask_row(&book, originator, reference, side, day, &row) == DONE);
+    for (unsigned p = 0; p < row.length; p++)
+        if (row.volume[p] != NOTHING_STANDS)
+            return false;
+    return true;
+}
+
 static bool nothing_stands_on(unsigned originator, unsigned reference, unsigned day)
 {
-    for (unsigned side = 1; side <= 2; side++) {
-        struct row row;
-
-        CHECK(ask_row(&book, originator, reference, side, day, &row) == DONE);
-        for (unsigned p = 0; p < row.length; p++)
-            if (row.volume[p] != NOTHING_STANDS)
-                return false;
-    }
-    return true;
+    return nothing_stands_on_side(originator, reference, 1, day)
+        && nothing_stands_on_side(originator, reference, 2, day);
 }
 
 /* ---- P1 to P13 ---- */
@@ -223,8 +233,9 @@ static void p10(void)
     open_table();
     CHECK(send(0, 7, 0, 1, 101, 101, 47, 1) == PERIODS_WRONG);
     CHECK(send(0, 7, 0, 1, 101, 102, 48, 1) == DONE);
-    CHECK(place(0, 1, 1, 102, 48) == 1 && place(0, 1, 1, 102, 50) == 0);
-    CHECK(place(0, 1, 1, 101, 46) == 0);
+    /* A1: "5 to 48 become 3 to 46" and "5 to 48 become 7 to 50". */
+    CHECK(place(0, 1, 1, 101, 46) == 1 && place(0, 1, 1, 101, 45) == 0);
+    CHECK(place(0, 1, 1, 102, 50) == 1 && place(0, 1, 1, 102, 48) == 0);
     CHECK(send(0, 7, 0, 1, 101, 102, 49, 1) == PERIODS_WRONG);
     CHECK(send(0, 7, 0, 1, 102, 102, 50, 1) == DONE);
     CHECK(place(0, 1, 1, 102, 50) == 1 && place(0, 1, 1, 101, 1) == 0);
@@ -269,6 +280,312 @@ static void p13(void)
     CHECK(read_message(packed, 4, &read, &used) == DONE && used == 4);
     CHECK(read.kind == NULLIFICATION && read.nullification.account[0] == 0);
     CHECK(read.nullification.account[1] == 1 && read.nullification.first_day == 100);
+}
+
+/* ---- A1: "Clock-change days follow the local hour" ----
+ *
+ * The table's day 100 has 48 periods, 101 is the short day of 46 and 102 the
+ * long day of 50.  A notification says 100 and its period's number, so 103
+ * for period 3; its replacement says 200 and the number.  The days below are
+ * written out from A1's words. */
+
+static const int32_t usual_day[48] = {
+    101, 102, 103, 104, 105, 106, 107, 108, 109, 110, 111, 112, 113, 114, 115, 116,
+    117, 118, 119, 120, 121, 122, 123, 124, 125, 126, 127, 128, 129, 130, 131, 132,
+    133, 134, 135, 136, 137, 138, 139, 140, 141, 142, 143, 144, 145, 146, 147, 148,
+};
+
+/* "drop its periods 3 and 4, and its 5 to 48 become 3 to 46". */
+static const int32_t short_day[46] = {
+    101, 102, 105, 106, 107, 108, 109, 110, 111, 112, 113, 114, 115, 116, 117, 118,
+    119, 120, 121, 122, 123, 124, 125, 126, 127, 128, 129, 130, 131, 132, 133, 134,
+    135, 136, 137, 138, 139, 140, 141, 142, 143, 144, 145, 146, 147, 148,
+};
+
+/* "1 to 4 stay, 3 and 4 are given again as 5 and 6, and 5 to 48 become 7 to
+ * 50". */
+static const int32_t long_day[50] = {
+    101, 102, 103, 104, 103, 104, 105, 106, 107, 108, 109, 110, 111, 112, 113, 114,
+    115, 116, 117, 118, 119, 120, 121, 122, 123, 124, 125, 126, 127, 128, 129, 130,
+    131, 132, 133, 134, 135, 136, 137, 138, 139, 140, 141, 142, 143, 144, 145, 146,
+    147, 148,
+};
+
+/* A single day says its own periods, up to 46 and up to 50. */
+static const int32_t single_short_day[46] = {
+    101, 102, 103, 104, 105, 106, 107, 108, 109, 110, 111, 112, 113, 114, 115, 116,
+    117, 118, 119, 120, 121, 122, 123, 124, 125, 126, 127, 128, 129, 130, 131, 132,
+    133, 134, 135, 136, 137, 138, 139, 140, 141, 142, 143, 144, 145, 146,
+};
+
+static const int32_t single_long_day[50] = {
+    101, 102, 103, 104, 105, 106, 107, 108, 109, 110, 111, 112, 113, 114, 115, 116,
+    117, 118, 119, 120, 121, 122, 123, 124, 125, 126, 127, 128, 129, 130, 131, 132,
+    133, 134, 135, 136, 137, 138, 139, 140, 141, 142, 143, 144, 145, 146, 147, 148,
+    149, 150,
+};
+
+/* Agent 7 gives 3 and 4 only: nothing of them is left on the short day. */
+static const int32_t short_day_of_3_and_4[46] = {0};
+
+static const int32_t long_day_of_3_and_4[50] = {0, 0, 103, 104, 103, 104};
+
+/* Period 3 is omitted, then 4, then 5. */
+static const int32_t long_day_without_3[50] = {
+    101, 102, 0,   104, 0,   104, 105, 106, 107, 108, 109, 110, 111, 112, 113, 114,
+    115, 116, 117, 118, 119, 120, 121, 122, 123, 124, 125, 126, 127, 128, 129, 130,
+    131, 132, 133, 134, 135, 136, 137, 138, 139, 140, 141, 142, 143, 144, 145, 146,
+    147, 148,
+};
+
+static const int32_t long_day_without_4[50] = {
+    101, 102, 103, 0,   103, 0,   105, 106, 107, 108, 109, 110, 111, 112, 113, 114,
+    115, 116, 117, 118, 119, 120, 121, 122, 123, 124, 125, 126, 127, 128, 129, 130,
+    131, 132, 133, 134, 135, 136, 137, 138, 139, 140, 141, 142, 143, 144, 145, 146,
+    147, 148,
+};
+
+static const int32_t short_day_without_5[46] = {
+    101, 102, 0,   106, 107, 108, 109, 110, 111, 112, 113, 114, 115, 116, 117, 118,
+    119, 120, 121, 122, 123, 124, 125, 126, 127, 128, 129, 130, 131, 132, 133, 134,
+    135, 136, 137, 138, 139, 140, 141, 142, 143, 144, 145, 146, 147, 148,
+};
+
+static const int32_t long_day_without_5[50] = {
+    101, 102, 103, 104, 103, 104, 0,   106, 107, 108, 109, 110, 111, 112, 113, 114,
+    115, 116, 117, 118, 119, 120, 121, 122, 123, 124, 125, 126, 127, 128, 129, 130,
+    131, 132, 133, 134, 135, 136, 137, 138, 139, 140, 141, 142, 143, 144, 145, 146,
+    147, 148,
+};
+
+/* Replaced when three gates of the short day were closed: 3 is kept, though
+ * the notification's period 5 is placed on it. */
+static const int32_t short_day_replaced[46] = {
+    101, 102, 105, 206, 207, 208, 209, 210, 211, 212, 213, 214, 215, 216, 217, 218,
+    219, 220, 221, 222, 223, 224, 225, 226, 227, 228, 229, 230, 231, 232, 233, 234,
+    235, 236, 237, 238, 239, 240, 241, 242, 243, 244, 245, 246, 247, 248,
+};
+
+/* Replaced when five gates of the long day were closed: of the repeated hour
+ * 5 is kept and 6 is new. */
+static const int32_t long_day_replaced[50] = {
+    101, 102, 103, 104, 103, 204, 205, 206, 207, 208, 209, 210, 211, 212, 213, 214,
+    215, 216, 217, 218, 219, 220, 221, 222, 223, 224, 225, 226, 227, 228, 229, 230,
+    231, 232, 233, 234, 235, 236, 237, 238, 239, 240, 241, 242, 243, 244, 245, 246,
+    247, 248,
+};
+
+/* The same by a notification of that day only. */
+static const int32_t long_day_replaced_by_single[50] = {
+    101, 102, 103, 104, 103, 206, 207, 208, 209, 210, 211, 212, 213, 214, 215, 216,
+    217, 218, 219, 220, 221, 222, 223, 224, 225, 226, 227, 228, 229, 230, 231, 232,
+    233, 234, 235, 236, 237, 238, 239, 240, 241, 242, 243, 244, 245, 246, 247, 248,
+    249, 250,
+};
+
+/* Sends 0/1 with periods low to high except one (0 for no exception), each
+ * with the base and its number as volume. */
+static enum answer send_periods(unsigned agent, unsigned first, unsigned last, unsigned low,
+                                unsigned high, unsigned except, int32_t base)
+{
+    struct notification n = {
+        .agent = agent,
+        .key = 500,
+        .reference = 1,
+        .first_day = first,
+        .last_day = last,
+    };
+
+    for (unsigned period = low; period <= high; period++)
+        if (period != except)
+            n.entry[n.count++] = (struct entry){period, base + (int32_t)period};
+    return send_packed(&n, (92 + 34 * n.count + 7) / 8);
+}
+
+/* Whether this side of 0/1 states exactly these volumes on the day. */
+static bool day_states(unsigned side, unsigned day, unsigned length, const int32_t *volume)
+{
+    struct row row;
+
+    CHECK(ask_row(&book, 0, 1, side, day, &row) == DONE);
+    return row.length == length && memcmp(row.volume, volume, length * sizeof *volume) == 0;
+}
+
+static void close_gates(unsigned gates)
+{
+    for (unsigned gate = 0; gate < gates; gate++)
+        CHECK(close_gate(&book) == DONE);
+}
+
+/* A book of this one day of the table. */
+static void open_day(unsigned day, unsigned code)
+{
+    struct setup setup = table_setup;
+
+    setup.first_day = day;
+    setup.days = 1;
+    setup.day_code[0] = code;
+    CHECK(open_book(&book, &setup, 16) == DONE);
+}
+
+static void every_day_of_a_book(unsigned first, unsigned last)
+{
+    struct day_figures figures;
+
+    open_table();
+    CHECK(send_periods(7, first, last, 1, 48, 0, 100) == DONE);
+    CHECK(day_states(1, 100, 48, usual_day));
+    CHECK(day_states(1, 101, 46, short_day));
+    CHECK(day_states(1, 102, 50, long_day));
+    CHECK(nothing_stands_on_side(0, 1, 2, 101) && nothing_stands_on_side(0, 1, 2, 102));
+
+    CHECK(send_periods(9, first, last, 1, 48, 0, 100) == DONE);
+    CHECK(day_states(2, 100, 48, usual_day));
+    CHECK(day_states(2, 101, 46, short_day));
+    CHECK(day_states(2, 102, 50, long_day));
+    CHECK(total(0, 101, 2) == 102 && total(0, 101, 3) == 105 && total(1, 101, 46) == -148);
+    CHECK(total(0, 102, 4) == 104 && total(0, 102, 5) == 103 && total(0, 102, 6) == 104);
+    CHECK(total(0, 102, 7) == 105 && total(1, 102, 50) == -148);
+
+    /* 101 to 148 sum to 5976; 103 and 104, together 207, are dropped in
+     * spring and come twice in autumn. */
+    CHECK(ask_day_figures(&book, 0, 100, &figures) == DONE && figures.sold == 5.976);
+    CHECK(ask_day_figures(&book, 0, 101, &figures) == DONE && figures.sold == 5.769);
+    CHECK(ask_day_figures(&book, 0, 102, &figures) == DONE && figures.sold == 6.183);
+}
+
+static void clock_change_days(void)
+{
+    every_day_of_a_book(100, 102);
+    every_day_of_a_book(100, EVERGREEN);
+    every_day_of_a_book(99, 103);
+}
+
+/* The other agent says another volume for period 4: no disagreement in
+ * spring, two in autumn. */
+static void disagreement_on_clock_change_days(void)
+{
+    open_table();
+    CHECK(send_periods(7, 101, 102, 3, 4, 0, 100) == DONE);
+    CHECK(send_periods(9, 101, 102, 3, 3, 0, 100) == DONE);
+    for (unsigned period = 1; period <= 46; period++)
+        CHECK(mark(0, 101, period).mark_case == AGREED && mark(0, 101, period).first == 0.0);
+    for (unsigned period = 1; period <= 50; period++)
+        CHECK(mark(0, 102, period).mark_case
+              == (period == 4 || period == 6 ? DISAGREED : AGREED));
+    CHECK(mark(1, 102, 6).first == -0.104 && mark(1, 102, 6).second == 0.0);
+    CHECK(mark(1, 102, 5).first == -0.103);
+}
+
+/* "a period of the day is omitted when the notification omits the period
+ * placed on it". */
+static void omitted_periods(void)
+{
+    open_table();
+    CHECK(send_periods(7, 101, 102, 3, 4, 0, 100) == DONE);
+    CHECK(day_states(1, 101, 46, short_day_of_3_and_4));
+    CHECK(day_states(1, 102, 50, long_day_of_3_and_4));
+    /* The short day is stated, though all its volumes are zero. */
+    CHECK(send(0, 7, 0, 2, 101, 101, 1, 5) == DONE && accepted.kind == ADDITIONAL);
+
+    open_table();
+    CHECK(send_periods(7, 101, EVERGREEN, 1, 48, 3, 100) == DONE);
+    CHECK(day_states(1, 101, 46, short_day));
+    CHECK(day_states(1, 102, 50, long_day_without_3));
+
+    open_table();
+    CHECK(send_periods(7, 101, 102, 1, 48, 4, 100) == DONE);
+    CHECK(day_states(1, 101, 46, short_day));
+    CHECK(day_states(1, 102, 50, long_day_without_4));
+
+    open_table();
+    CHECK(send_periods(7, 101, 102, 1, 48, 5, 100) == DONE);
+    CHECK(day_states(1, 101, 46, short_day_without_5));
+    CHECK(day_states(1, 102, 50, long_day_without_5));
+}
+
+static void single_clock_change_days(void)
+{
+    open_table();
+    CHECK(send_periods(7, 101, 101, 1, 46, 0, 100) == DONE);
+    CHECK(day_states(1, 101, 46, single_short_day));
+    CHECK(send_periods(7, 101, 101, 1, 47, 0, 100) == PERIODS_WRONG);
+    CHECK(send_periods(7, 102, 102, 1, 50, 0, 100) == DONE);
+    CHECK(day_states(1, 102, 50, single_long_day));
+    CHECK(day_states(1, 101, 46, single_short_day));
+}
+
+/* "periods 1 to 48" stays the limit over several days. */
+static void limit_over_several_days(void)
+{
+    open_table();
+    CHECK(send_periods(7, 101, 102, 1, 49, 0, 100) == PERIODS_WRONG);
+    CHECK(send_periods(7, 101, EVERGREEN, 1, 49, 0, 100) == PERIODS_WRONG);
+    CHECK(send_periods(7, 102, EVERGREEN, 49, 49, 0, 100) == PERIODS_WRONG);
+    CHECK(send_periods(7, 102, 103, 50, 50, 0, 100) == PERIODS_WRONG);
+    CHECK(!book.slot[0].held);
+    CHECK(send_periods(7, 102, EVERGREEN, 48, 48, 0, 100) == DONE);
+    CHECK(place(0, 1, 1, 102, 50) == 148 && place(0, 1, 1, 102, 49) == 0);
+    CHECK(place(0, 1, 1, 102, 48) == 0);
+}
+
+/* Two days, or no end, of which the book has the clock-change day only. */
+static void one_day_in_the_book(void)
+{
+    static const unsigned first_and_last[3][2] = {{100, 101}, {101, 102}, {101, EVERGREEN}};
+
+    for (unsigned i = 0; i < 3; i++) {
+        unsigned first = first_and_last[i][0];
+        unsigned last = first_and_last[i][1];
+
+        open_day(101, 0);
+        CHECK(send_periods(7, first, last, 1, 49, 0, 100) == PERIODS_WRONG);
+        CHECK(send_periods(7, first, last, 1, 48, 0, 100) == DONE);
+        CHECK(day_states(1, 101, 46, short_day));
+        open_day(101, 2);
+        CHECK(send_periods(7, first, last, 1, 49, 0, 100) == PERIODS_WRONG);
+        CHECK(send_periods(7, first, last, 1, 48, 0, 100) == DONE);
+        CHECK(day_states(1, 101, 50, long_day));
+    }
+}
+
+/* "the mark after its last day", in all 46 and all 50 places. */
+static void mark_after_the_last_day(void)
+{
+    open_table();
+    CHECK(send_periods(7, 100, 101, 1, 48, 0, 100) == DONE);
+    CHECK(day_states(1, 101, 46, short_day));
+    CHECK(nothing_stands_on(0, 1, 102));
+    CHECK(send_periods(7, 100, EVERGREEN, 1, 48, 0, 100) == DONE);
+    CHECK(day_states(1, 102, 50, long_day));
+    CHECK(send_periods(7, 99, 100, 1, 48, 0, 200) == DONE && accepted.kind == REPLACEMENT);
+    CHECK(nothing_stands_on(0, 1, 101) && nothing_stands_on(0, 1, 102));
+    CHECK(place(0, 1, 1, 100, 48) == 248);
+}
+
+/* "Closed places never change", in the hours that the clock change moves. */
+static void gates_within_clock_change_days(void)
+{
+    open_table();
+    CHECK(send_periods(7, 100, 102, 1, 48, 0, 100) == DONE);
+    close_gates(48 + 3);
+    CHECK(send_periods(7, 100, 101, 1, 48, 0, 200) == DONE && accepted.kind == REPLACEMENT);
+    CHECK(day_states(1, 100, 48, usual_day));
+    CHECK(day_states(1, 101, 46, short_day_replaced));
+    CHECK(nothing_stands_on(0, 1, 102));
+
+    open_table();
+    CHECK(send_periods(7, 100, 102, 1, 48, 0, 100) == DONE);
+    close_gates(48 + 46 + 5);
+    CHECK(send_periods(7, 101, EVERGREEN, 1, 48, 0, 200) == DONE && accepted.kind == REPLACEMENT);
+    CHECK(day_states(1, 101, 46, short_day));
+    CHECK(day_states(1, 102, 50, long_day_replaced));
+
+    open_table();
+    CHECK(send_periods(7, 100, EVERGREEN, 1, 48, 0, 100) == DONE);
+    close_gates(48 + 46 + 5);
+    CHECK(send_periods(7, 102, 102, 1, 50, 0, 200) == DONE && accepted.kind == REPLACEMENT);
+    CHECK(day_states(1, 102, 50, long_day_replaced_by_single));
 }
 
 /* ---- Types, slots, the last gate, questions, unsound books ---- */
@@ -637,6 +954,14 @@ int main(int argc, char **argv)
     p11();
     p12();
     p13();
+    clock_change_days();
+    disagreement_on_clock_change_days();
+    omitted_periods();
+    single_clock_change_days();
+    limit_over_several_days();
+    one_day_in_the_book();
+    mark_after_the_last_day();
+    gates_within_clock_change_days();
     types();
     slots();
     last_gate();

@@ -505,13 +505,19 @@ static bool originator_is_wrong(const struct book *book, const struct notificati
 }
 
 /* "First and last day equal: periods 1 to that day's length. Otherwise,
- * evergreen included: periods 1 to 48."  Asked only after 8 and 9, so that a
- * single day is a day of the book. */
+ * evergreen included: periods 1 to 48."  The otherwise is a 48-period
+ * notification, however many of its days lie in the book. */
+static bool is_48_period_notification(const struct notification *n)
+{
+    return n->first_day != n->last_day;
+}
+
+/* Asked only after 8 and 9, so that a single day is a day of the book. */
 static unsigned highest_period(const struct book *book, const struct notification *n)
 {
-    if (n->first_day == n->last_day)
-        return day_length(&book->setup, n->first_day - book->setup.first_day);
-    return 48;
+    if (is_48_period_notification(n))
+        return 48;
+    return day_length(&book->setup, n->first_day - book->setup.first_day);
 }
 
 /* "10: a period is 0 or too high, or periods do not strictly rise; an entry
@@ -638,9 +644,21 @@ static enum notification_kind kind_of(const struct book *book, const struct noti
  * Notification: what it does
  * ====================================================================== */
 
-/* "its volume, zero where a period is omitted".  With periods 1 to 48, "On a
- * 46-period day a 48-period notification uses its first 46; on a 50-period
- * day 49 and 50 are zero (house)": no entry bears 49 or 50 then. */
+/* A1: "A 48-period notification over a 46-period day must drop its periods 3
+ * and 4, and its 5 to 48 become 3 to 46. Over a 50-period day 1 to 4 stay, 3
+ * and 4 are given again as 5 and 6, and 5 to 48 become 7 to 50."  The period
+ * of the notification that is placed on this period of a day so long. */
+static unsigned period_placed_on(unsigned period, unsigned length)
+{
+    if (length == 46 && period >= 3)
+        return period + 2;
+    if (length == 50 && period >= 5)
+        return period - 2;
+    return period;
+}
+
+/* "its volume, zero where a period is omitted", by the notification's own
+ * periods. */
 static int32_t volume_stated(const struct notification *n, unsigned period)
 {
     for (unsigned e = 0; e < n->count; e++)
@@ -649,10 +667,20 @@ static int32_t volume_stated(const struct notification *n, unsigned period)
     return 0;
 }
 
-/* What the notification puts in a place: "the mark after its last day". */
-static int32_t place_for(const struct notification *n, unsigned day, unsigned period)
+/* A1: ""its volume" ... means the volume so placed, and a period of the day
+ * is omitted when the notification omits the period placed on it." */
+static int32_t volume_placed(const struct notification *n, unsigned period, unsigned length)
 {
-    return day > n->last_day ? NOTHING_STANDS : volume_stated(n, period);
+    if (is_48_period_notification(n))
+        return volume_stated(n, period_placed_on(period, length));
+    return volume_stated(n, period);
+}
+
+/* What the notification puts in a place: "the mark after its last day". */
+static int32_t place_for(const struct notification *n, unsigned day, unsigned period,
+                         unsigned length)
+{
+    return day > n->last_day ? NOTHING_STANDS : volume_placed(n, period, length);
 }
 
 /* "every open place of the identifier on the written sides is rewritten";
@@ -662,13 +690,15 @@ static void rewrite_day(struct book *book, const struct notification *n, unsigne
 {
     const struct authorisation *sent_under = &book->setup.authorisation[n->authorisation];
     unsigned day = book->setup.first_day + day_place;
+    unsigned length = day_length(&book->setup, day_place);
 
     for (unsigned side = 0; side < 2; side++) {
         if (!writes_side(sent_under, n->agent, side))
             continue;
-        for (unsigned period = 1; period <= day_length(&book->setup, day_place); period++)
+        for (unsigned period = 1; period <= length; period++)
             if (gate_is_open(book, day_place, period))
-                book->side[side][slot][day_place][period - 1] = place_for(n, day, period);
+                book->side[side][slot][day_place][period - 1]
+                    = place_for(n, day, period, length);
     }
 }
 

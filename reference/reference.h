@@ -2,9 +2,11 @@
  * The book of the scope paper, written a second time and independently.
  *
  * Everything here follows the sentences of the scope paper ("What to make
- * and its exact rules").  Names are the paper's words.  A comment in quotes
- * is a sentence of the paper; "(decided)" marks a reading that was settled
- * because the paper leaves it open (README.md lists them).
+ * and its exact rules") and of change request A1 ("Clock-change days follow
+ * the local hour").  Names are the paper's words.  A comment in quotes is a
+ * sentence of the paper, and of the request where it begins with A1;
+ * "(decided)" marks a reading that was settled because the paper leaves it
+ * open (README.md lists them).
  *
  * Numbering: accounts, authorisations and slots count from 0; periods and
  * sides from 1; days are day numbers (0 is 1 January 2000).

@@ -14,6 +14,9 @@
  * whose order C leaves open.  A book is kept beside the story to steer it
  * (which day is current, what is held); it never decides an answer.
  *
+ * In words, a line "placed" follows an accepted notification of several days
+ * for each short or long day on which change request A1 places it.
+ *
  * Answers that stories reach: 0; 2 to 14 for notifications; 2, 15 and 9 for
  * nullifications; 2 for gates; 17, 18, 19 and 22 for setups; 19 to 22 for
  * messages.  Answers that no sheet can give:
@@ -181,11 +184,56 @@ static void say_message(const struct message *message)
             nullification->account[1], nullification->first_day);
 }
 
+static bool is_clock_change_day(unsigned day_place)
+{
+    return day_length(&setup, day_place) != 48;
+}
+
+static unsigned periods_closed(unsigned day_place)
+{
+    unsigned closed = 0;
+
+    while (closed < day_length(&setup, day_place) && !gate_is_open(&book, day_place, closed + 1))
+        closed++;
+    return closed;
+}
+
+/* Whether the notification is of several days, this one is among them, and
+ * some period of it is open: all that a 48-period notification needs to be
+ * placed on a day. */
+static bool is_long_over(const struct notification *n, unsigned day_place)
+{
+    unsigned day = setup.first_day + day_place;
+
+    return n->first_day != n->last_day && n->first_day <= day && day <= n->last_day
+        && periods_closed(day_place) < day_length(&setup, day_place);
+}
+
+/* The clock-change days on which an accepted notification was placed by A1,
+ * and how many periods of the day were closed then. */
+static void say_placed(const struct notification *n)
+{
+    for (unsigned d = 0; d < setup.days; d++)
+        if (is_clock_change_day(d) && is_long_over(n, d))
+            say("placed %u %s day=%u closed=%u\n", messages,
+                day_length(&setup, d) == 46 ? "short" : "long", setup.first_day + d,
+                periods_closed(d));
+}
+
+static enum answer notify_book(const struct notification *n)
+{
+    struct acceptance acceptance;
+    enum answer answer = notify(&book, n, &acceptance);
+
+    if (answer == DONE)
+        say_placed(n);
+    return answer;
+}
+
 /* Adds a readable message and puts it to the book beside. */
 static enum answer add_message(const struct message *message)
 {
     uint8_t bytes[MOST_MESSAGE_BYTES];
-    struct acceptance acceptance;
 
     messages++;
     say("message %u ", messages);
@@ -194,7 +242,7 @@ static enum answer add_message(const struct message *message)
     if (message->kind == GATE)
         return close_gate(&book);
     if (message->kind == NOTIFICATION)
-        return notify(&book, &message->notification, &acceptance);
+        return notify_book(&message->notification);
     return nullify(&book, &message->nullification);
 }
 
@@ -387,6 +435,18 @@ static void choose_row(unsigned a)
     row->type = choose_row_type();
 }
 
+/* More clock-change days than any calendar has: stories are for them too. */
+static void choose_day_codes(void)
+{
+    unsigned manner = WEIGHTED(50, 30, 10, 10);
+
+    for (unsigned d = 0; d < setup.days; d++)
+        setup.day_code[d] = manner == 0   ? WEIGHTED(20, 60, 20)
+                            : manner == 1 ? WEIGHTED(40, 20, 40)
+                            : manner == 2 ? WEIGHTED(70, 30, 0)
+                                          : WEIGHTED(0, 30, 70);
+}
+
 static void choose_setup(void)
 {
     choose_agent_pool();
@@ -394,8 +454,7 @@ static void choose_setup(void)
     setup.first_day = choose_first_day_of_book();
     setup.accounts = choose_accounts();
     setup.authorisations = choose_authorisations();
-    for (unsigned d = 0; d < setup.days; d++)
-        setup.day_code[d] = WEIGHTED(20, 60, 20);
+    choose_day_codes();
     for (unsigned a = 0; a < setup.authorisations; a++)
         choose_row(a);
 }
@@ -570,8 +629,50 @@ static unsigned day_after_book(void)
     return chance(60) ? last + 1 : between(last + 1, LATEST_DAY);
 }
 
+/* The number of a clock-change day with an open gate, where there is one. */
+static bool choose_clock_change_day(unsigned *day)
+{
+    bool listed[MOST_DAYS];
+    bool found;
+
+    for (unsigned d = 0; d < setup.days; d++)
+        listed[d] = is_clock_change_day(d) && periods_closed(d) < day_length(&setup, d);
+    *day = setup.first_day + pick_listed(listed, setup.days, &found);
+    return found;
+}
+
+static unsigned day_soon_before(unsigned day)
+{
+    unsigned back = between(1, 3);
+
+    return day > back ? day - back : 0;
+}
+
+static unsigned day_soon_after(unsigned day)
+{
+    unsigned after = day + between(1, 3);
+
+    return after <= LATEST_DAY ? after : EVERGREEN;
+}
+
+/* Several days, this one among them; they may begin before the book and end
+ * after it. */
+static void choose_days_over(struct notification *n, unsigned day)
+{
+    n->first_day = chance(50) ? day : day_soon_before(day);
+    n->last_day = chance(40) ? day : chance(50) ? day_soon_after(day) : EVERGREEN;
+    if (n->first_day == n->last_day)
+        n->last_day = chance(50) ? day_soon_after(day) : EVERGREEN;
+}
+
 static void choose_days(struct notification *n)
 {
+    unsigned clock_change_day;
+
+    if (choose_clock_change_day(&clock_change_day) && chance(20)) {
+        choose_days_over(n, clock_change_day);
+        return;
+    }
     n->first_day = day_from_current();
     n->last_day = n->first_day;
     switch (WEIGHTED(28, 22, 14, 6, 9, 3, 8, 10)) {
@@ -700,12 +801,49 @@ static unsigned choose_period(unsigned highest)
     return period <= highest ? period : highest;
 }
 
+/* For a clock-change day: much or little, but not zero, in the periods about
+ * the change and in the last two. */
+static void choose_entries_over_clock_change(struct notification *n)
+{
+    unsigned volumes = WEIGHTED(60, 20, 12, 8); /* not ZEROS */
+
+    n->count = 0;
+    switch (WEIGHTED(35, 25, 25, 15)) {
+    case 0:
+        add_entries(n, 1, 48, 100, volumes);
+        break;
+    case 1:
+        add_entries(n, 1, 48, 85, volumes);
+        break;
+    case 2:
+        add_entries(n, 1, 6, 60, volumes);
+        add_entries(n, 7, 46, 5, volumes);
+        add_entries(n, 47, 48, 60, volumes);
+        break;
+    default: /* what a short day drops and a long day gives again */
+        add_entries(n, 3, 4, 85, volumes);
+        break;
+    }
+}
+
+static bool is_long_over_clock_change(const struct notification *n)
+{
+    for (unsigned d = 0; d < setup.days; d++)
+        if (is_clock_change_day(d) && is_long_over(n, d))
+            return true;
+    return false;
+}
+
 static void choose_entries(struct notification *n)
 {
     unsigned highest = highest_period(n);
     unsigned volumes = choose_volumes();
     unsigned open = first_open_period();
 
+    if (is_long_over_clock_change(n) && chance(40)) {
+        choose_entries_over_clock_change(n);
+        return;
+    }
     n->count = 0;
     switch (WEIGHTED(6, 24, 30, 10, 14, 8, 8)) {
     case 0:
@@ -1077,13 +1215,26 @@ static void close_gates(unsigned gates)
         add_message(&gate);
 }
 
+/* Gates that close some of the first six periods of a clock-change day, today
+ * or tomorrow; one where neither is such a day. */
+static unsigned gates_into_clock_change_day(void)
+{
+    unsigned place = current_day_place(&book);
+
+    if (place < setup.days && is_clock_change_day(place) && periods_closed(place) < 6)
+        return between(1, 6 - periods_closed(place));
+    if (place + 1 < setup.days && is_clock_change_day(place + 1))
+        return gates_left_today() + between(1, 6);
+    return 1;
+}
+
 static void step_gates(void)
 {
     unsigned today = gates_left_today();
     unsigned gates = 1;
 
-    switch (plan == SUCCESSION ? WEIGHTED(20, 15, 35, 12, 13, 5)
-                               : WEIGHTED(40, 24, 14, 9, 8, 5)) {
+    switch (plan == SUCCESSION ? WEIGHTED(20, 15, 35, 12, 13, 5, 8)
+                               : WEIGHTED(40, 24, 14, 9, 8, 5, 8)) {
     case 0:
         break;
     case 1:
@@ -1098,8 +1249,11 @@ static void step_gates(void)
     case 4:
         gates = today + 1;
         break;
-    default:
+    case 5:
         gates = between(1, 60);
+        break;
+    default:
+        gates = gates_into_clock_change_day();
         break;
     }
     /* Seldom the very last: after it every answer is 2. */
@@ -1205,11 +1359,69 @@ static void step_wild(void)
     send_notification(&n);
 }
 
+/* Another volume for a period about the clock change or for one of the last
+ * two, where there is such an entry. */
+static void change_volume_about_clock_change(struct notification *n)
+{
+    bool listed[MOST_ENTRIES];
+    bool found;
+
+    for (unsigned e = 0; e < n->count; e++)
+        listed[e] = n->entry[e].period <= 6 || n->entry[e].period >= 47;
+
+    unsigned e = pick_listed(listed, n->count, &found);
+
+    if (found)
+        n->entry[e].volume = choose_volume(SMALL);
+}
+
+/* A word on a clock-change day, and mostly the other agent's at once: the
+ * same, or different about the clock change. */
+static bool send_over_clock_change(const struct notification *n)
+{
+    struct notification other = *n;
+
+    if (!send_notification(n))
+        return false;
+    other.agent = other_agent(n);
+    if (other.agent == n->agent || chance(20))
+        return true;
+    if (chance(35))
+        change_volume_about_clock_change(&other);
+    send_notification(&other);
+    return true;
+}
+
+/* Several days over a clock-change day, and mostly the same identifier again,
+ * often when some of the day's first periods have closed meanwhile.  In a
+ * very long story the gates close at their own times. */
+static void step_clock_change(void)
+{
+    struct notification n;
+    unsigned day;
+
+    if (!choose_clock_change_day(&day)) {
+        step_notification();
+        return;
+    }
+    choose_notification(&n);
+    choose_days_over(&n, day);
+    choose_entries_over_clock_change(&n);
+    if (!send_over_clock_change(&n) || chance(25))
+        return;
+    if (plan != VERY_LONG && chance(60))
+        close_gates(gates_into_clock_change_day());
+    if (is_clock_change_day(current_day() - setup.first_day))
+        choose_days_over(&n, current_day());
+    choose_entries_over_clock_change(&n);
+    send_over_clock_change(&n);
+}
+
 static void step(void)
 {
-    unsigned manner = plan == FULL         ? WEIGHTED(72, 16, 4, 2, 3, 1, 2)
-                    : plan == SUCCESSION   ? WEIGHTED(44, 20, 22, 4, 4, 2, 4)
-                                           : WEIGHTED(46, 24, 14, 5, 4, 3, 4);
+    unsigned manner = plan == FULL         ? WEIGHTED(70, 16, 4, 2, 3, 1, 2, 2)
+                    : plan == SUCCESSION   ? WEIGHTED(40, 19, 21, 4, 4, 2, 4, 6)
+                                           : WEIGHTED(41, 22, 13, 5, 4, 3, 4, 8);
 
     switch (manner) {
     case 0:
@@ -1230,8 +1442,11 @@ static void step(void)
     case 5:
         step_wild();
         break;
-    default:
+    case 6:
         step_withdrawal();
+        break;
+    default:
+        step_clock_change();
         break;
     }
 }
@@ -1533,7 +1748,7 @@ static const char *const ending_name[ENDINGS] = {"whole", "cut", "unreadable"};
 /* A step that closes no gate. */
 static void step_between_gates(void)
 {
-    switch (WEIGHTED(46, 24, 5, 4, 3, 4)) {
+    switch (WEIGHTED(41, 22, 5, 4, 3, 4, 7)) {
     case 0:
         step_notification();
         break;
@@ -1549,8 +1764,11 @@ static void step_between_gates(void)
     case 4:
         step_wild();
         break;
-    default:
+    case 5:
         step_withdrawal();
+        break;
+    default:
+        step_clock_change();
         break;
     }
 }
