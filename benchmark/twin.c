@@ -5,10 +5,10 @@
 #include <string.h>
 
 enum { PLACES = GHENDUFIKA_PLACES_A_DAY, MOST_DAYS = GHENDUFIKA_MOST_DAYS, MOST_SLOTS = GHENDUFIKA_MOST_SLOTS, MOST_ENTRIES = 50, MOST_ROWS = 64, MOST_ACCOUNTS = 64 };
-enum { EVERGREEN = 65535, PLAIN_DAY = 48, MOST_KWH = 99999999, HEAD_BITS = 92, HEAD_BYTES = 12, ENTRY_BITS = 34 };
+enum { EVERGREEN = 65535, SHORT_DAY = 46, PLAIN_DAY = 48, LONG_DAY = 50, MOST_KWH = 99999999, HEAD_BITS = 92, HEAD_BYTES = 12, ENTRY_BITS = 34 };
 
 static const int32_t MARK = GHENDUFIKA_MARK;
-static const uint8_t PERIODS[] = {46, 48, 50};
+static const uint8_t PERIODS[] = {SHORT_DAY, PLAIN_DAY, LONG_DAY};
 
 /* ---- packed messages */
 
@@ -355,13 +355,35 @@ static void blank(int32_t *row, unsigned from, unsigned to) {
     for (unsigned p = from; p < to; p++) row[p] = MARK;
 }
 
+/* A day's places from `turn` on show the notification's from `resumed` on; those before `turn` show their own. */
+typedef struct {
+    unsigned turn, resumed;
+} local_hour;
+
+/* Request A1 (document 02): a short day drops periods 3 and 4 of a notification over several days, a long day gives them again as 5 and 6. Here
+ * places count from 0. On a plain day, and for a single day, every place is its own. */
+static local_hour local_hour_of(const head *n, unsigned periods) {
+    if (n->first != n->last && periods == SHORT_DAY) return (local_hour){.turn = 2, .resumed = 4};
+    if (n->first != n->last && periods == LONG_DAY) return (local_hour){.turn = 4, .resumed = 2};
+    return (local_hour){.turn = 0, .resumed = 0};
+}
+
+/* In two pieces straight into the row, so that nothing is laid out for a day's length first. */
+static void place_volumes(int32_t *row, unsigned from, unsigned to, const int32_t *volumes, local_hour hour) {
+    if (from < hour.turn) {
+        memcpy(row + from, volumes + from, (hour.turn - from) * sizeof *row);
+        from = hour.turn;
+    }
+    memcpy(row + from, volumes + hour.resumed + (from - hour.turn), (to - from) * sizeof *row);
+}
+
 static void rewrite(const tables *t, int32_t *side, const head *n, size_t slot, const int32_t *volumes) {
     unsigned d = place_of_day(t, n->first > t->clock.today ? n->first : t->clock.today);
     for (; d < t->clock.days; d++) {
         int32_t *row = row_at(t, side, slot, d);
         unsigned from = t->clock.closed_on[d], to = t->clock.periods[d];
         if (t->clock.first + d <= n->last)
-            memcpy(row + from, volumes + from, (to - from) * sizeof *row);
+            place_volumes(row, from, to, volumes, local_hour_of(n, to));
         else
             blank(row, from, to);
     }
