@@ -1,24 +1,38 @@
 /* write_story NAME: the packed stories of this folder, on standard output. They are packed by the independent program's packing.c, not by the code
- * that reads them. Both have one day 100 of 48 periods; authorisation 0 has agents 7 and 9 for accounts 11, the first party, and 22, the second. No
- * account has the number of its side, so that who takes one for the other is seen. */
+ * that reads them. Two have one day 100 of 48 periods, two have three days with a clock change on the second; authorisation 0 has agents 7 and 9 for
+ * accounts 11, the first party, and 22, the second. No account has the number of its side, so that who takes one for the other is seen. */
 #include "packing.h"
 
 #include <stdio.h>
 #include <string.h>
+
+/* Day codes, by the periods of such a day. */
+enum { DAY_OF_46, DAY_OF_48, DAY_OF_50 };
 
 static void write_setup(const struct setup *setup) {
     uint8_t bytes[MOST_SETUP_BYTES];
     fwrite(bytes, 1, pack_setup(setup, bytes), stdout);
 }
 
-/* Day 100, one identifier; volumes in kWh, plus where the first party of the authorisation sells. */
-static void notify_day(unsigned authorisation, unsigned agent, unsigned key, unsigned reference, unsigned count, const struct entry *entries) {
+/* One identifier, of the authorisation itself; volumes in kWh, plus where the first party of the authorisation sells. */
+static void notify_days(unsigned authorisation, unsigned agent, unsigned key, unsigned reference, unsigned first_day, unsigned last_day, unsigned count,
+                        const struct entry *entries) {
     struct message message = {.kind = NOTIFICATION};
     uint8_t bytes[MOST_MESSAGE_BYTES];
     message.notification = (struct notification){.authorisation = authorisation, .agent = agent, .key = key, .originator = authorisation,
-                                                 .reference = reference, .first_day = 100, .last_day = 100, .count = count};
+                                                 .reference = reference, .first_day = first_day, .last_day = last_day, .count = count};
     memcpy(message.notification.entry, entries, count * sizeof entries[0]);
     fwrite(bytes, 1, pack_message(&message, bytes), stdout);
+}
+
+static void notify_day(unsigned authorisation, unsigned agent, unsigned key, unsigned reference, unsigned count, const struct entry *entries) {
+    notify_days(authorisation, agent, key, reference, 100, 100, count, entries);
+}
+
+/* Accounts 11 and 22 say the same of a contract. */
+static void agree_days(unsigned reference, unsigned first_day, unsigned last_day, unsigned count, const struct entry *entries) {
+    notify_days(0, 9, 500, reference, first_day, last_day, count, entries);
+    notify_days(0, 7, 500, reference, first_day, last_day, count, entries);
 }
 
 static void close_gates(unsigned count) {
@@ -29,7 +43,7 @@ static void close_gates(unsigned count) {
 
 /* The user's story: his client, account 22, is the second party and sells 5 MWh in period 35. Agent 9 says so for him, agent 7 for the first party. */
 static void write_period_35(void) {
-    static const struct setup setup = {.first_day = 100, .days = 1, .accounts = 23, .authorisations = 1, .day_code = {1},
+    static const struct setup setup = {.first_day = 100, .days = 1, .accounts = 23, .authorisations = 1, .day_code = {DAY_OF_48},
                                        .authorisation = {{{7, 9}, {11, 22}, 500, 0, EVERGREEN, TYPE_BOTH}}};
     static const struct entry sold[] = {{35, -5000}};
     write_setup(&setup);
@@ -41,7 +55,7 @@ static void write_period_35(void) {
  * sells to 33 as first party (1/1, agreed), sells more at noon (1/2, which 33 has not confirmed: its key was wrong) and is said by 33 to buy in the
  * evening (1/3). */
 static void write_busy_day(void) {
-    static const struct setup setup = {.first_day = 100, .days = 1, .accounts = 34, .authorisations = 2, .day_code = {1},
+    static const struct setup setup = {.first_day = 100, .days = 1, .accounts = 34, .authorisations = 2, .day_code = {DAY_OF_48},
                                        .authorisation = {{{7, 9}, {11, 22}, 500, 0, EVERGREEN, TYPE_BOTH}, {{9, 13}, {22, 33}, 600, 0, EVERGREEN, TYPE_BOTH}}};
     struct entry bought[48], said_otherwise[48], sold[24], noon[8], evening[6];
     for (unsigned k = 0; k < 48; k++) bought[k] = said_otherwise[k] = (struct entry){k + 1, 2000 + 250 * (int32_t)(k % 24 < 12 ? k % 12 : 12 - k % 12)};
@@ -62,12 +76,36 @@ static void write_busy_day(void) {
     close_gates(12);
 }
 
+/* A day whose clock changes between the plain day before it and the plain day after, seen from account 22. It sells at night without an end (0/1), each
+ * half hour another volume, so that one sees which is dropped or given twice; it buys from 07:00 to 19:00 of all three days (0/2), periods 15 to 38 of
+ * a plain day; and it sells in period 35 of the changed day alone (0/3), which is that day's own period 35. */
+static void write_clock_change(unsigned day, unsigned day_code) {
+    static const struct entry night[] = {{1, -1000}, {2, -2000}, {3, -3000}, {4, -4000}, {5, -5000}, {6, -6000}, {48, -7000}};
+    static const struct entry period_35[] = {{35, -5000}};
+    struct setup setup = {.first_day = day - 1, .days = 3, .accounts = 23, .authorisations = 1, .day_code = {DAY_OF_48, day_code, DAY_OF_48},
+                          .authorisation = {{{7, 9}, {11, 22}, 500, 0, EVERGREEN, TYPE_BOTH}}};
+    struct entry from_7_to_19[24];
+    for (unsigned k = 0; k < 24; k++) from_7_to_19[k] = (struct entry){k + 15, 4000};
+    write_setup(&setup);
+    agree_days(1, day - 1, EVERGREEN, 7, night);
+    agree_days(2, day - 1, day + 1, 24, from_7_to_19);
+    agree_days(3, day, day, 1, period_35);
+}
+
+/* Sunday 26 March 2000, without an hour from 01:00 to 02:00. */
+static void write_spring_day(void) { write_clock_change(85, DAY_OF_46); }
+
+/* Sunday 29 October 2000, with two hours from 01:00 to 02:00. */
+static void write_autumn_day(void) { write_clock_change(302, DAY_OF_50); }
+
 int main(int argc, char **argv) {
-    static const char use[] = "use: write_story period_35|busy_day\nOne of the packed stories of examples/, on standard output.\n";
+    static const char use[] = "use: write_story period_35|busy_day|spring_day|autumn_day\nOne of the packed stories of examples/, on standard output.\n";
     const char *name = argc == 2 ? argv[1] : "";
     if (strcmp(name, "--help") == 0) fputs(use, stdout);
     else if (strcmp(name, "period_35") == 0) write_period_35();
     else if (strcmp(name, "busy_day") == 0) write_busy_day();
+    else if (strcmp(name, "spring_day") == 0) write_spring_day();
+    else if (strcmp(name, "autumn_day") == 0) write_autumn_day();
     else {
         fputs(use, stderr);
         return 2;
