@@ -25,7 +25,7 @@ const char *const fault_names[] = {
     "account_of_a_mark_is_cut_to_8_bits", "day_of_marks_is_cut_to_16_bits", "side_of_a_row_is_cut_to_8_bits", "row_of_a_folded_identifier_is_held",
     "nullified_account_is_cut_to_8_bits", "day_of_a_nullification_is_cut_to_16_bits",
     "refused_message_has_a_length", "refused_message_has_a_kind", "kind_of_a_packed_notification_is_lost", "slot_of_a_packed_notification_is_lost",
-    "gate_has_a_kind", "reading_comes_before_soundness",
+    "gate_has_a_kind", "reading_comes_before_soundness", "short_day_shows_its_own_period_3", "long_day_has_zero_in_5_and_6",
     NULL
 };
 
@@ -80,6 +80,32 @@ ghendufika_gated faulty_close_gate(ghendufika_book book, const uint32_t *held, s
     return gated;
 }
 
+/* A1: the periods, on side 1, of the first day of this code that a notification of several days has just written whole; NULL where there is none. */
+static int32_t *written_day(const ghendufika_book *book, const ghendufika_notification *n, ghendufika_notified notified, int32_t *side1, uint8_t code) {
+    static const unsigned lengths[] = {46, 48, 50};
+    if (notified.answer != 0 || n->first == n->last || n->agent != book->setup.rows[n->authorisation].agent1) return NULL;
+    unsigned gates = 0;
+    for (unsigned d = 0; d < book->setup.days; gates += lengths[book->setup.codes[d]], d++) {
+        unsigned day = book->setup.first + d;
+        bool open = book->closed <= gates && n->first <= day && day <= n->last;
+        if (book->setup.codes[d] == code && open) return side1 + ((size_t)notified.slot * book->setup.days + d) * 50;
+    }
+    return NULL;
+}
+
+static int32_t own_period_3(const ghendufika_notification *n) {
+    for (unsigned e = 0; e < n->count; e++)
+        if (n->entries[e].period == 3) return n->entries[e].volume;
+    return 0;
+}
+
+static void misplace(const ghendufika_book *book, const ghendufika_notification *n, ghendufika_notified notified, int32_t *side1) {
+    int32_t *short_day = written_day(book, n, notified, side1, GHENDUFIKA_DAY_OF_46);
+    int32_t *long_day = written_day(book, n, notified, side1, GHENDUFIKA_DAY_OF_50);
+    if (is("short_day_shows_its_own_period_3") && short_day != NULL) short_day[2] = own_period_3(n);
+    if (is("long_day_has_zero_in_5_and_6") && long_day != NULL) long_day[4] = long_day[5] = 0;
+}
+
 ghendufika_notified faulty_notify(ghendufika_book book, ghendufika_notification notification, uint32_t *held, size_t slots, int32_t *side1, size_t lent1, int32_t *side2, size_t lent2) {
     if (is("key_is_not_tested") && notification.authorisation < book.setup.authorisations && notification.authorisation < 64)
         notification.key = book.setup.rows[notification.authorisation].key;
@@ -91,6 +117,7 @@ ghendufika_notified faulty_notify(ghendufika_book book, ghendufika_notification 
     if (is("number_that_cannot_come") && notified.answer == 14) notified.answer = 15;
     if (is("refused_notification_changes_a_place") && notified.answer == 13) side1[lent1 - 1] ^= 1;
     if (is("refused_notification_takes_a_slot") && notified.answer == 12) held[slots - 1]++;
+    misplace(&book, &notification, notified, side1);
     return notified;
 }
 

@@ -157,7 +157,9 @@ typedef struct {
     int32_t volume;
 } ghendufika_entry;
 
-/* `authorisation` is the one that it is sent under; originator and reference are the identifier. Entries past `count` are no part of it. */
+/* `authorisation` is the one that it is sent under; originator and reference are the identifier. Entries past `count` are no part of it. With `first`
+ * and `last` equal the periods are that day's own. Otherwise, evergreen included, they are the 48 of a plain day, and each day shows them at the same
+ * local hour: a day of 46 drops 3 and 4 and shows 5 to 48 as its 3 to 46; a day of 50 shows 3 and 4 again as its 5 and 6, and 5 to 48 as its 7 to 50. */
 typedef struct {
     uint8_t authorisation, agent;
     uint16_t key;

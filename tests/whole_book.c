@@ -1,5 +1,5 @@
-/* Document 01's table P1 to P13 by the whole book from C: a setup written, opened packed, messages written, read and sent as structs, and what is
- * then shown as marks, rows and totals. Every expected number is document 01's, or follows from it by hand. */
+/* Document 01's table P1 to P13, and document 02's A1, by the whole book from C: a setup written, opened packed, messages written, read and sent as
+ * structs, and what is then shown as marks, rows and totals. Every expected number is the documents', or follows from them by hand. */
 #include "ghendufika.h"
 
 #include <stdio.h>
@@ -19,7 +19,7 @@ static unsigned long checks;
 static void expect(int line, const char *what, double found, double expected) {
     checks++;
     if (memcmp(&found, &expected, sizeof found) == 0) return; /* so that minus zero is not zero */
-    fprintf(stderr, "whole_book.c:%d: %s is %.17g, and document 01 has %.17g\n", line, what, found, expected);
+    fprintf(stderr, "whole_book.c:%d: %s is %.17g, and the document has %.17g\n", line, what, found, expected);
     exit(1);
 }
 
@@ -216,6 +216,50 @@ static void p10_to_p11_periods_and_days(void) {
     EXPECT("100 to 99", said(0, 7, 0, 4, 100, 99, 1, 5).answer, 7);
     EXPECT("99 to 99", said(0, 7, 0, 4, 99, 99, 1, 5).answer, 8);
     EXPECT("103 to 103", said(0, 7, 0, 4, 103, 103, 1, 5).answer, 9);
+}
+
+/* ---- document 02, A1: an evergreen notification gives each of its 48 periods its own number */
+
+static ghendufika_notified numbered(unsigned first, unsigned last, unsigned count) {
+    ghendufika_message m = {.kind = GHENDUFIKA_NOTIFICATION};
+    m.notification = (ghendufika_notification){.agent = 7, .key = 500, .reference = 1, .first = (uint16_t)first, .last = (uint16_t)last, .count = (uint8_t)count};
+    for (unsigned k = 0; k < count; k++) m.notification.entries[k] = (ghendufika_entry){.period = (uint8_t)(k + 1), .volume = (int32_t)(k + 1)};
+    return ghendufika_notify(book, passed_on(m, (92 + 34 * count + 7) / 8).notification, LENT);
+}
+
+static void expect_periods(int line, unsigned day, size_t length, const int32_t *volumes) { /* of 0/1 on side 1 */
+    ghendufika_row_place r = ghendufika_row(book, LENT, 0, 1, day, 1);
+    expect(line, "the row's answer", r.answer, 0);
+    expect(line, "the row's length", (double)r.length, (double)length);
+    for (size_t p = 0; p < length; p++) expect(line, "a period", side1[r.start + p], volumes[p]);
+}
+
+static const int32_t as_numbered[50] = {1, 2, 3, 4, 5, 6, 7, 8, 9, 10, 11, 12, 13, 14, 15, 16, 17, 18, 19, 20, 21, 22, 23, 24, 25,
+                                        26, 27, 28, 29, 30, 31, 32, 33, 34, 35, 36, 37, 38, 39, 40, 41, 42, 43, 44, 45, 46, 47, 48, 49, 50};
+
+static void a1_a_spring_day(void) {
+    static const int32_t spring[46] = {1, 2, 5, 6, 7, 8, 9, 10, 11, 12, 13, 14, 15, 16, 17, 18, 19, 20, 21, 22, 23, 24, 25, 26, 27,
+                                       28, 29, 30, 31, 32, 33, 34, 35, 36, 37, 38, 39, 40, 41, 42, 43, 44, 45, 46, 47, 48};
+    open_the_book();
+    EXPECT("100 to evergreen, 48 periods", numbered(100, GHENDUFIKA_EVERGREEN, 48).answer, 0);
+    expect_periods(__LINE__, 100, 48, as_numbered);
+    expect_periods(__LINE__, 101, 46, spring);
+}
+
+static void a1_an_autumn_day(void) {
+    static const int32_t autumn[50] = {1, 2, 3, 4, 3, 4, 5, 6, 7, 8, 9, 10, 11, 12, 13, 14, 15, 16, 17, 18, 19, 20, 21, 22, 23,
+                                       24, 25, 26, 27, 28, 29, 30, 31, 32, 33, 34, 35, 36, 37, 38, 39, 40, 41, 42, 43, 44, 45, 46, 47, 48};
+    open_the_book();
+    EXPECT("100 to evergreen, 48 periods", numbered(100, GHENDUFIKA_EVERGREEN, 48).answer, 0);
+    expect_periods(__LINE__, 102, 50, autumn);
+}
+
+static void a1_a_single_day_is_not_placed(void) {
+    open_the_book();
+    EXPECT("101 only, 46 periods", numbered(101, 101, 46).answer, 0);
+    expect_periods(__LINE__, 101, 46, as_numbered);
+    EXPECT("102 only, 50 periods", numbered(102, 102, 50).answer, 0);
+    expect_periods(__LINE__, 102, 50, as_numbered);
 }
 
 static void p12_to_p13_nullified(void) {
@@ -454,6 +498,9 @@ int main(void) {
     p9_a_closed_period_stays();
     p10_to_p11_periods_and_days();
     p12_to_p13_nullified();
+    a1_a_spring_day();
+    a1_an_autumn_day();
+    a1_a_single_day_is_not_placed();
     sizes_and_fields();
     a_setup_by_hand();
     refused_openings_leave_the_tables();
@@ -461,6 +508,6 @@ int main(void) {
     refused_questions();
     packed_messages();
     wide_numbers();
-    printf("whole book: %lu answers as document 01 has them\n", checks);
+    printf("whole book: %lu answers as the documents have them\n", checks);
     return 0;
 }
