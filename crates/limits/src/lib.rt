@@ -1,4 +1,4 @@
-// The limits of document 01, each once and by name; the answer numbers beside them. A name in _WIDE is the same limit in a wider type.
+// The limits of document 01, and A1's of document 02, each once and by name; the answer numbers beside them. A name in _WIDE is the same limit in a wider type.
 pub mod numbers; // numbers.rt: the answer numbers
 pub mod kinds; // kinds.rt: the numbers of kinds and types
 
