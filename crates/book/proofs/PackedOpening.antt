@@ -82,17 +82,28 @@ module _ (n m : ℕ) (e : (n =? 0) ≡ (m =? 0)) where
   unfolding sideOpened
   same-side side = rw e
 
+-- what opening by what was read promises of its result and of the three tables
+abbrev pub OpensPackedBy : Reading Books.Setup → List ℕ → List ℤ → List ℤ → OpenedPacked → List ℕ → List ℤ → List ℤ → Type 0
+OpensPackedBy read held side1 side2 r h l1 l2 =
+    (r ≡ openedPacked read) × (h ≡ heldOpened (read .answer) held) × (l1 ≡ sideOpened (read .answer) side1) × (l2 ≡ sideOpened (read .answer) side2)
+
+-- only what was read counts, not the rules that it was read by
+pub packed-by : (held : List ℕ) (side1 side2 : List ℤ) {read read′ : Reading Books.Setup} {r : OpenedPacked} {h : List ℕ} {l1 l2 : List ℤ}
+    → read ≡ read′ → OpensPackedBy read held side1 side2 r h l1 l2 → OpensPackedBy read′ held side1 side2 r h l1 l2
+packed-by held side1 side2 e p = (
+  p .0 ∙ ap openedPacked e,
+  p .1 ∙ ap (λ (x : Reading Books.Setup). heldOpened (x .answer) held) e,
+  p .2 ∙ ap (λ (x : Reading Books.Setup). sideOpened (x .answer) side1) e,
+  p .3 ∙ ap (λ (x : Reading Books.Setup). sideOpened (x .answer) side2) e,
+)
+
 module _ (bytes held : List ℕ) (side1 side2 : List ℤ) where
   abbrev whole : Reading Books.Setup
   whole = readSetup bytes (length held) (length side1) (length side2)
 
   -- what is promised of the result and of the three tables
   abbrev pub OpensPacked : OpenedPacked → List ℕ → List ℤ → List ℤ → Type 0
-  OpensPacked r h l1 l2 =
-      (r ≡ openedPacked whole)
-      × (h ≡ heldOpened (whole .answer) held)
-      × (l1 ≡ sideOpened (whole .answer) side1)
-      × (l2 ≡ sideOpened (whole .answer) side2)
+  OpensPacked = OpensPackedBy whole held side1 side2
 
   pub opened-from : (read : SetupRead) (o : Opened) (h : List ℕ) (l1 l2 : List ℤ) → read ≡ setupRead whole → Opens (read .setup) held side1 side2 o h l1 l2
       → OpensPacked (record { answer = read .answer; length = read .length; book = o .book }) h l1 l2

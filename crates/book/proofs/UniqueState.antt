@@ -1,6 +1,6 @@
 -- No two different outcomes keep one promise of `book`: the result, and of `open` each table left.
 use mathlib.Core.List.{List}
-use mathlib.Core.Path.{_≡_, ap}
+use mathlib.Core.Path.{ap}
 use Prim.Native.Nat.{ℕ}
 use contract.Lifetimes.{Lfts}
 use denote.Ref.{RefT, now}
@@ -9,15 +9,15 @@ use Rattle.laws.proofs.Cases.{one-outcome}
 use Rattle.laws.proofs.Promises.{OneOutcome, OneResult}
 use Rattle.setups.specs.declared.Setup.{Setup}
 use Rattle.setups.specs.Structs.{rowFor}
-use Rattle.book.specs.Answers.{opened, heldOpened, sideOpened}
 use Rattle.book.specs.declared.Opened.{Opened}
-use Rattle.book.proofs.OpeningLaws.{openingAnswer}
+use Rattle.book.proofs.OpeningLaws.{OpensBy, openingAnswer}
 use Rattle.book.proofs.state.clock_of.Reads as clock-of
 use Rattle.book.proofs.state.row_of.Reads as row-of
 use Rattle.book.proofs.state.origin_place.Reads as origin-place
 use Rattle.book.proofs.state.origin_row.Reads as origin-row
 use Rattle.book.proofs.soundness.is_sound.Reads as is-sound
 use Rattle.book.proofs.opening.opening_refusal.Reads as opening-refusal
+use Rattle.book.proofs.opening.no_book.Reads as no-book
 use Rattle.book.proofs.opening.open.Reads as opening
 
 pub unique-clock-of : OneResult clock-of.Post
@@ -39,6 +39,9 @@ unique-is-sound κs a r r′ s s′ = one-outcome
 pub unique-opening-refusal : OneResult opening-refusal.Post
 unique-opening-refusal κs a r r′ s s′ = one-outcome
 
+pub unique-no-book : OneResult no-book.Post
+unique-no-book κs a r r′ s s′ = one-outcome
+
 pub unique-open : OneResult opening.Post
     × OneOutcome opening.Post (λ κs r s. now (s .1 .0))
     × OneOutcome opening.Post (λ κs r s. now (s .1 .1 .0))
@@ -52,9 +55,7 @@ unique-open = (
 
 -- what `open` ensures of its result and of the three tables
 abbrev pub Opens : Setup → List ℕ → List ℤ → List ℤ → Opened → List ℕ → List ℤ → List ℤ → Type 0
-Opens s held side1 side2 r h l1 l2 =
-    let a = openingAnswer s held side1 side2 in
-    (r ≡ opened s a) × (h ≡ heldOpened a held) × (l1 ≡ sideOpened a side1) × (l2 ≡ sideOpened a side2)
+Opens s held side1 side2 = OpensBy (openingAnswer s held side1 side2) s held side1 side2
 
 pub open-promises : (κs : Lfts 3) (s : Setup) (held held′ : RefT (List ℕ)) (side1 side1′ side2 side2′ : RefT (List ℤ)) (r : Opened)
     → opening.Post κs (s, (held, (side1, (side2, tt)))) r (s, (held′, (side1′, (side2′, tt))))

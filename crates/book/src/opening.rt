@@ -30,7 +30,7 @@ pub fn opening_refusal(s: setups::Setup, slots: usize, lent1: usize, lent2: usiz
 }
 
 // A book whose every field is zero: what a refusal gives.
-fn no_book() -> Book
+pub fn no_book() -> Book
     ensures { λ r. ⌜ r ≡ noBook ⌝ }
 {
     Book {

@@ -13,7 +13,7 @@ use Rattle.laws.proofs.Cases.{on, or-left, or-right}
 use Rattle.laws.proofs.Rules.{passed, answer-none}
 use Rattle.meaning.specs.Books.{Setup, codeWrong, countsWrong, lastDayWrong, lentWrong, someRowWrong}
 use Rattle.meaning.specs.PackedMessages.{packedInto}
-use Rattle.meaning.specs.PackedSetups.{readSetup, setupIn, setupLayout, setupLayoutFor, setupLayoutIn, setupReadingRules, setupValues, setupWritingRules, writeSetup}
+use Rattle.meaning.specs.PackedSetups.{readBy, readSetup, setupIn, setupLayout, setupLayoutFor, setupLayoutIn, setupReadingRules, setupValues, setupWritingRules, writeSetup}
 
 -- ---- reading
 
@@ -22,12 +22,14 @@ head-first : (s : List ℕ) → 34 ≤ total (setupLayoutIn s)
 unfolding setupLayoutIn setupLayoutFor
 head-first s = omega arith
 
+-- what is read by an answer has it
+pub read-by-answer : (n : ℕ) (s : List ℕ) → readBy n s .answer ≡ n
+read-by-answer n s = on (n =? 0) (λ e. rw e (sym (eqb-true n 0 e))) (λ e. rw e)
+
 module _ (s : List ℕ) (slots lent1 lent2 : ℕ) where
   pub setup-reading-answer : readSetup s slots lent1 lent2 .answer ≡ answer (setupReadingRules s slots lent1 lent2)
   unfolding readSetup
-  setup-reading-answer =
-      let n : ℕ = answer (setupReadingRules s slots lent1 lent2) in
-      on (n =? 0) (λ e. rw e (sym (eqb-true n 0 e))) (λ e. rw e)
+  setup-reading-answer = read-by-answer (answer (setupReadingRules s slots lent1 lent2)) s
 
   pub setup-reading-done : answer (setupReadingRules s slots lent1 lent2) ≡ 0
       → readSetup s slots lent1 lent2 ≡ record { answer = 0; length = bytesFor (setupLayoutIn s); read = setupIn s }

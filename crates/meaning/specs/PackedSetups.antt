@@ -57,27 +57,38 @@ setupLayoutIn bytes = setupLayoutFor (getD (readAll bytes 0 headLayout) 1 0) (ge
 unfoldable pub setupIn : List ℕ → Setup
 setupIn bytes = setupFrom (readAll bytes 0 (setupLayoutIn bytes))
 
--- "Setup order: under 5 bytes 19, wrong counts, last day above 65,534 or lent lengths 17, short 19, code 3 17, rows 18, 22."
-unfoldable pub setupReadingRules : List ℕ → ℕ → ℕ → ℕ → List Rule
-setupReadingRules bytes slots lent1 lent2 =
+-- "Setup order: under 5 bytes 19, wrong counts, last day above 65,534 or lent lengths 17, short 19, code 3 17, rows 18, 22." In two parts: what the bytes
+-- hold, and their padding.
+abbrev pub contentRules : List ℕ → ℕ → ℕ → ℕ → List Rule
+contentRules bytes slots lent1 lent2 =
     19 when length bytes <? bytesFor headLayout else
     17 when countsWrong (setupIn bytes) || lastDayWrong (setupIn bytes) || lentWrong (setupIn bytes) slots lent1 lent2 else
     19 when length bytes <? bytesFor (setupLayoutIn bytes) else
     17 when codeWrong (setupIn bytes) else
     18 when someRowWrong (setupIn bytes) else
+    done
+
+abbrev pub paddingRules : List ℕ → List Rule
+paddingRules bytes =
     22 when not (fieldAt bytes (total (setupLayoutIn bytes)) (padding (setupLayoutIn bytes)) =? 0) else
     done
+
+unfoldable pub setupReadingRules : List ℕ → ℕ → ℕ → ℕ → List Rule
+setupReadingRules bytes slots lent1 lent2 = contentRules bytes slots lent1 lent2 ++ paddingRules bytes
 
 -- a setup whose every field is zero, with a refusal
 abbrev pub noSetup : Setup
 noSetup = record { first = 0; codes = []; accounts = 0; rows = [] }
 
-unfoldable pub readSetup : List ℕ → ℕ → ℕ → ℕ → Reading Setup
-readSetup bytes slots lent1 lent2 =
-    let number = answer (setupReadingRules bytes slots lent1 lent2) in
+-- what is read of the bytes with this answer, which is 0 where nothing refuses them
+abbrev pub readBy : ℕ → List ℕ → Reading Setup
+readBy number bytes =
     if number =? 0
     then record { answer = 0; length = bytesFor (setupLayoutIn bytes); read = setupIn bytes }
     else record { answer = number; length = 0; read = noSetup }
+
+unfoldable pub readSetup : List ℕ → ℕ → ℕ → ℕ → Reading Setup
+readSetup bytes slots lent1 lent2 = readBy (answer (setupReadingRules bytes slots lent1 lent2)) bytes
 
 -- ---- writing
 

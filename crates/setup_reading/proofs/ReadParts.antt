@@ -19,7 +19,7 @@ use Rattle.laws.proofs.Layouts.{read-append, read-length, times-length, times-t
 use Rattle.meaning.specs.Authorisations as Meaning
 use Rattle.meaning.specs.Books as Books
 use Rattle.meaning.specs.Books.{countsWrong, lastDayWrong, lentWrong}
-use Rattle.meaning.specs.PackedSetups.{readSetup, rowLayout, rowsFrom, setupFrom, setupIn, setupLayoutFor, setupLayoutIn, setupReadingRules}
+use Rattle.meaning.specs.PackedSetups.{readBy, readSetup, rowLayout, rowsFrom, setupFrom, setupIn, setupLayoutFor, setupLayoutIn, setupReadingRules}
 use Rattle.meaning.proofs.PackedSetupRules.{setup-reading-done}
 use Rattle.meaning.proofs.SetupValues.{row-at, rows-count}
 use Rattle.setups.specs.declared.Setup.{Setup}
@@ -182,6 +182,12 @@ module _ (s : List ℕ) where
   unfolding setupStructIn setupFor
   struct-in = rw (parts-in, codes-count, rows-count count rowFields, codes-in, rows-in)
 
+-- nothing is read with a refusal, whatever rules it comes from
+pub refused-by : (s : List ℕ) {n m : ℕ} {t : Setup} → n ≡ m → n ≢ 0 → t ≡ noSetupStruct
+    → _≡_ {A = SetupRead} (record { answer = n; length = 0; setup = t }) (setupRead (readBy m s))
+unfolding setupRead setupFor build
+refused-by s {n} {m} {t} p h q = rw (ne-eqb m 0 (λ z. h (p ∙ z))) (λ i. record { answer = p i; length = 0; setup = q i })
+
 -- ---- the rules of reading, asked of the struct
 
 module _ (s : List ℕ) (slots lent1 lent2 : ℕ) where
@@ -220,6 +226,5 @@ module _ (s : List ℕ) (slots lent1 lent2 : ℕ) where
   -- and refused
   pub read-refused : {n : ℕ} {t : Setup} → n ≡ answer (setupReadingRules s slots lent1 lent2) → n ≢ 0 → t ≡ noSetupStruct
       → _≡_ {A = SetupRead} (record { answer = n; length = 0; setup = t }) (setupRead (readSetup s slots lent1 lent2))
-  unfolding setupRead readSetup setupFor build
-  read-refused {n} {t} p h q =
-      rw (ne-eqb (answer (setupReadingRules s slots lent1 lent2)) 0 (λ z. h (p ∙ z))) (λ i. record { answer = p i; length = 0; setup = q i })
+  unfolding readSetup
+  read-refused p h q = refused-by s p h q

@@ -9,10 +9,10 @@ ghost use mathlib.Core.Path.{_≡_};
 ghost use lib.Dec.{eqb};
 ghost use Rattle.words.specs.Rules.{answer};
 ghost use Rattle.words.specs.Fields.{total, padding, fieldAt};
-ghost use Rattle.meaning.specs.PackedSetups.{setupLayoutFor, setupReadingRules, readSetup};
+ghost use Rattle.meaning.specs.PackedSetups.{setupLayoutFor, contentRules, setupReadingRules, readSetup};
 ghost use Rattle.setups.specs.Structs.{noSetupStruct};
 ghost use Rattle.setup_reading.specs.Structs.{setupRead};
-ghost use Rattle.setup_reading.specs.Parts.{rowIn, codesIn, rowsIn, setupStructIn};
+ghost use Rattle.setup_reading.specs.Parts.{rowIn, codesIn, rowsIn, setupStructIn, contentIn};
 
 // With a refusal the length is 0 and the setup all zero.
 #[repr(C)]
@@ -22,9 +22,17 @@ pub struct SetupRead {
     pub setup: setups::Setup,
 }
 
+// What the bytes hold, and the number that refuses it before their padding is looked at, or 0.
+#[repr(C)]
+pub struct Content {
+    pub answer: u8,
+    pub setup: setups::Setup,
+}
+
 const HEAD_BYTES: usize = 5;
+
 // Some padding bit is 1.
-fn padding_set(bytes: &[u8], days: u8, authorisations: u8) -> bool
+pub fn padding_set(bytes: &[u8], days: u8, authorisations: u8) -> bool
     ensures { λ r. ⌜ r ≡ not (eqb (fieldAt (now (bytes .entry)) (total (setupLayoutFor days authorisations)) (padding (setupLayoutFor days authorisations))) 0) ⌝ }
 {
     let bits = layouts::bits_for(days, authorisations);
@@ -117,7 +125,7 @@ fn setup_in(bytes: &[u8]) -> Setup
 }
 
 // A setup whose every field is zero: what a refusal gives.
-fn no_setup() -> Setup
+pub fn no_setup() -> Setup
     ensures { λ r. ⌜ r ≡ noSetupStruct ⌝ }
 {
     Setup {
@@ -139,14 +147,14 @@ fn no_setup() -> Setup
     }
 }
 
-// The number that refuses these bytes for so many slots and two lent tables of these lengths, or 0.
-pub fn reading_refusal(bytes: &[u8], slots: usize, lent1: usize, lent2: usize) -> u8
-    ensures { λ r. ⌜ r ≡ answer (setupReadingRules (now (bytes .entry)) slots lent1 lent2) ⌝ }
+// 19, 17, 19, 17, 18: the number that refuses these bytes, which hold the setup `s`, before their padding is looked at, or 0.
+fn content_refusal(bytes: &[u8], s: Setup, slots: usize, lent1: usize, lent2: usize) -> u8
+    requires { ⌜ s ≡ setupStructIn (now bytes) ⌝ }
+    ensures { λ r. ⌜ r ≡ answer (contentRules (now (bytes .entry)) slots lent1 lent2) ⌝ }
 {
     if bytes.len() < HEAD_BYTES {
         return numbers::BYTES_END_TOO_SOON;
     }
-    let s = setup_in(bytes);
     if rules::counts_wrong(s)
         | rules::last_day_wrong(s)
         | rules::lent_wrong(s, slots, lent1, lent2)
@@ -162,6 +170,30 @@ pub fn reading_refusal(bytes: &[u8], slots: usize, lent1: usize, lent2: usize) -
     if rules::some_row_wrong(s) {
         return numbers::ROW_WRONG;
     }
+    0
+}
+
+// The setup in hand, whatever its padding: a checked setup is held against the calendar after this, and before its padding is looked at (02, A2).
+pub fn content_in(bytes: &[u8], slots: usize, lent1: usize, lent2: usize) -> Content
+    ensures { λ r. ⌜ r ≡ contentIn (now (bytes .entry)) slots lent1 lent2 ⌝ }
+{
+    let s = setup_in(bytes);
+    let answer = content_refusal(bytes, s, slots, lent1, lent2);
+    Content {
+        answer: answer,
+        setup: s,
+    }
+}
+
+// The number that refuses these bytes for so many slots and two lent tables of these lengths, or 0.
+pub fn reading_refusal(bytes: &[u8], slots: usize, lent1: usize, lent2: usize) -> u8
+    ensures { λ r. ⌜ r ≡ answer (setupReadingRules (now (bytes .entry)) slots lent1 lent2) ⌝ }
+{
+    let content = content_in(bytes, slots, lent1, lent2);
+    if content.answer != 0 {
+        return content.answer;
+    }
+    let s = content.setup;
     if padding_set(bytes, s.days, s.authorisations) {
         return numbers::PADDING_BIT;
     }

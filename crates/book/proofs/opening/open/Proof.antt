@@ -4,9 +4,7 @@ use mathlib.Core.Path.{_≡_, sym, ap, _∙_}
 use Prim.Native.Nat.{ℕ}
 use denote.Ref.{now}
 use Rattle.book.specs.Answers.{opened, heldOpened, sideOpened}
-use Rattle.book.specs.declared.Book.{Book}
-use Rattle.book.specs.declared.Opened.{Opened}
-use Rattle.book.proofs.OpeningLaws.{openingAnswer, opened-refused, held-refused, side-refused}
+use Rattle.book.proofs.OpeningLaws.{openingAnswer, opens-nothing}
 use Rattle.book.proofs.opening.open.Statement.{statement}
 use Rattle.book.proofs.opening.open.Tie as tie
 
@@ -19,14 +17,7 @@ no-book-requires c κs = search needs
 returns : tie.Need-returns
 returns c =
     let a = c .before .before .before .before .args in
-    let r = c .before .before .opening-refusal in
-    let refused = c .before .if1 .taken in
-    let made : Book → Opened = λ (b : Book). record { answer = r .result; book = b } in (
-      ap made (c .no-book .ensures) ∙ sym (opened-refused (r .result) refused (a .s)) ∙ ap (opened (a .s)) (r .ensures),
-      sym (held-refused (r .result) refused (now (a .held))) ∙ ap (λ (n : ℕ). heldOpened n (now (a .held))) (r .ensures),
-      sym (side-refused (r .result) refused (now (a .side1))) ∙ ap (λ (n : ℕ). sideOpened n (now (a .side1))) (r .ensures),
-      sym (side-refused (r .result) refused (now (a .side2))) ∙ ap (λ (n : ℕ). sideOpened n (now (a .side2))) (r .ensures),
-    )
+    opens-nothing (a .s) (now (a .held)) (now (a .side1)) (now (a .side2)) (c .before .before .opening-refusal .ensures) (c .before .if1 .taken) (c .no-book .ensures)
 
 let-go-requires : tie.Need-let-go-requires
 let-go-requires c κs = search needs
