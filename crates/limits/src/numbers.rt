@@ -1,4 +1,4 @@
-// Document 01, "Answer numbers", in its order; 0 is done. docs/ANSWERS.md leads from each to its rule.
+// Document 01, "Answer numbers", in its order, and document 02's after them; 0 is done. docs/ANSWERS.md leads from each to its rule.
 pub const NOT_SOUND: u8 = 1;
 
 pub const EVERY_GATE_CLOSED: u8 = 2;
@@ -53,3 +53,9 @@ pub const NO_ROOM: u8 = 24;
 pub const NOT_HELD: u8 = 25;
 
 pub const TOTAL_TOO_LARGE: u8 = 26;
+
+// Document 02, A2: a day or a date that is not in 2000 to 2099.
+pub const NOT_IN_CALENDAR: u8 = 27;
+
+// A day's code in a setup is not the calendar's.
+pub const CODE_DISAGREES: u8 = 28;

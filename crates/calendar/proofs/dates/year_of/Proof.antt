@@ -1,0 +1,18 @@
+-- By the definition.
+use borrow.Author.Needs.{needs}
+use Rattle.calendar.specs.Calendar.{yearOf}
+use Rattle.calendar.proofs.dates.year_of.Statement.{statement}
+use Rattle.calendar.proofs.dates.year_of.Tie as tie
+
+mul-result : tie.Need-mul-result
+mul-result c = search needs
+
+add-result : tie.Need-add-result
+add-result c = search needs
+
+returns : tie.Need-returns
+unfolding yearOf
+returns c = search needs
+
+pub year-of-spec : {M : Type 1} → statement M
+year-of-spec = tie.close (tie.spec mul-result add-result returns)
