@@ -7,7 +7,7 @@
  * nothing and always returns. A pointer must point somewhere, also where its length is 0; buffers lent to one call may not overlap; a pointer must
  * be aligned for its type. Lengths count elements, not bytes. Structs go in and come out by value; nothing has to be freed.
  *
- * Numbers that a call or a question names by themselves (account, day, period, side, originator, reference) are taken as 32 bits and checked, not
+ * Numbers that a call or a question names by themselves (account, day, period, side, originator, reference, date) are taken as 32 bits and checked, not
  * cut: account 257 is none (15) and not account 1, and so are day 65,636 and period or side 257 (16), and reference 65,537 (25). The numbers in structs
  * are narrower; a wider one that C cuts into them is cut before the call.
  *
@@ -38,7 +38,7 @@ extern "C" {
 
 /* ---- numbers */
 
-/* Answers (document 01, "Answer numbers"). */
+/* Answers (document 01, "Answer numbers"; 27 and 28 document 02, A2). */
 #define GHENDUFIKA_DONE 0
 #define GHENDUFIKA_NOT_SOUND 1              /* the tables handed in are not a sound book */
 #define GHENDUFIKA_EVERY_GATE_CLOSED 2
@@ -66,12 +66,17 @@ extern "C" {
 #define GHENDUFIKA_NO_ROOM 24               /* no room for the packed message, or for a day's answers */
 #define GHENDUFIKA_NOT_HELD 25              /* identifier not held */
 #define GHENDUFIKA_TOTAL_TOO_LARGE 26       /* beyond 99,999,999,999 either way; never of a sound book */
+#define GHENDUFIKA_NOT_IN_CALENDAR 27       /* a day or date that is not in 2000 to 2099 */
+#define GHENDUFIKA_CODE_DISAGREES 28        /* a day's code is not the calendar's */
 
 /* "Nothing stands." Zero is not nothing. */
 #define GHENDUFIKA_MARK INT32_MIN
 
 /* As a last day: no end. */
 #define GHENDUFIKA_EVERGREEN 65535u
+
+/* 31 December 2099, the calendar's last day; its first is day 0. */
+#define GHENDUFIKA_LAST_CALENDAR_DAY 36524u
 
 /* Limits. */
 #define GHENDUFIKA_MOST_ENTRIES 50u
@@ -270,6 +275,38 @@ typedef struct {
     size_t length; /* the day's periods; 0 exactly with a refusal */
 } ghendufika_row_place;
 
+/* Months count from 1 to 12, days of a month from 1. */
+typedef struct {
+    uint16_t year;
+    uint8_t month, day;
+} ghendufika_date;
+
+typedef struct {
+    uint8_t answer;
+    uint8_t periods; /* 46, 48 or 50 */
+} ghendufika_measured;
+
+typedef struct {
+    uint8_t answer;
+    uint8_t code; /* GHENDUFIKA_DAY_OF_46, ..; 0 with a refusal, which is no code then */
+} ghendufika_coded;
+
+typedef struct {
+    uint8_t answer;
+    uint16_t day;
+} ghendufika_numbered;
+
+typedef struct {
+    uint8_t answer;
+    ghendufika_date date;
+} ghendufika_dated;
+
+/* What is past the days asked for is zero. */
+typedef struct {
+    uint8_t answer;
+    uint8_t codes[8]; /* GHENDUFIKA_DAY_OF_46, ..; as a setup has them */
+} ghendufika_proposed;
+
 /* ---- about message bytes, each asked apart */
 
 /* The number that refuses these bytes as a message, or 0: 19, 20, 19, 21, 19, 22. Bytes after the message belong to the next and are not looked at. */
@@ -294,9 +331,28 @@ ghendufika_message_written ghendufika_write_message(ghendufika_message message, 
  * zero. */
 ghendufika_setup_read ghendufika_read_setup(const uint8_t *bytes, size_t length, size_t slots, size_t lent1, size_t lent2);
 
+/* The same, with the setup's days held against the calendar: 19, 17, 19, 17, 18, 27, 28, 22. */
+ghendufika_setup_read ghendufika_read_setup_checked(const uint8_t *bytes, size_t length, size_t slots, size_t lent1, size_t lent2);
+
 /* The setup to the front of the buffer: 17, 18, 24 (23 never comes: what passes 17 and 18 fits). Bytes of the buffer past what is written stay. A
  * buffer of GHENDUFIKA_MOST_SETUP_BYTES has room for every setup. */
 ghendufika_setup_written ghendufika_write_setup(ghendufika_setup setup, uint8_t *out, size_t room);
+
+/* ---- the calendar, 1 January 2000 to 31 December 2099 */
+
+/* The periods of a day: 46 on the last Sunday of March, 50 on the last Sunday of October, else 48: 27. */
+ghendufika_measured ghendufika_day_length(uint32_t day);
+
+/* Its code in a setup: 27. */
+ghendufika_coded ghendufika_code_of_day(uint32_t day);
+
+/* The number of a date's day, and the date of a day's number: 27, also for a date that does not exist, as 30 February. */
+ghendufika_numbered ghendufika_day_of_date(uint32_t year, uint32_t month, uint32_t day);
+ghendufika_dated ghendufika_date_of_day(uint32_t day);
+
+/* The codes of so many days from a first one on, for a setup, so that nobody types them: 17 where a setup of these days would have it (0 or more than
+ * 8 days, or a last day above 65,534), then 27. */
+ghendufika_proposed ghendufika_propose_codes(uint32_t first, uint32_t days);
 
 /* ---- calls on a book */
 
@@ -306,6 +362,12 @@ ghendufika_opened ghendufika_open(ghendufika_setup setup, uint32_t *held, size_t
 
 /* Reads a packed setup for the lent tables and opens it: 19, 17, 19, 17, 18, 22. What is read is always opened. */
 ghendufika_opened_packed ghendufika_open_packed(const uint8_t *bytes, size_t length, uint32_t *held, size_t slots, int32_t *side1, size_t lent1, int32_t *side2, size_t lent2);
+
+/* The same two, with the setup's days held against the calendar: 17, 18, 27, 28, and 19, 17, 19, 17, 18, 27, 28, 22. Every day of the book is looked
+ * for in the calendar (27) before any code is held against it (28). What is opened is opened as by the two above; they, and every function of a
+ * book that is open, do not ask the calendar. */
+ghendufika_opened ghendufika_open_checked(ghendufika_setup setup, uint32_t *held, size_t slots, int32_t *side1, size_t lent1, int32_t *side2, size_t lent2);
+ghendufika_opened_packed ghendufika_open_packed_checked(const uint8_t *bytes, size_t length, uint32_t *held, size_t slots, int32_t *side1, size_t lent1, int32_t *side2, size_t lent2);
 
 /* Whether the tables are a sound book: where not, every call and question answers 1. */
 bool ghendufika_is_sound(ghendufika_book book, const uint32_t *held, size_t slots, const int32_t *side1, size_t lent1, const int32_t *side2, size_t lent2);

@@ -32,6 +32,11 @@ registers total(ghendufika_book book, TABLES, uint32_t account, uint32_t day, ui
 void figures(uint8_t *result, ghendufika_book book, TABLES, uint32_t account, uint32_t day) __asm__("ghendufika_figures");
 void mark(uint8_t *result, ghendufika_book book, TABLES, uint32_t originator, uint32_t reference, uint32_t account, uint32_t day, uint32_t period) __asm__("ghendufika_mark");
 void row(uint8_t *result, ghendufika_book book, TABLES, uint32_t originator, uint32_t reference, uint32_t day, uint32_t side) __asm__("ghendufika_row");
+registers day_length(uint32_t day) __asm__("ghendufika_day_length");
+registers code_of_day(uint32_t day) __asm__("ghendufika_code_of_day");
+registers day_of_date(uint32_t year, uint32_t month, uint32_t day) __asm__("ghendufika_day_of_date");
+registers date_of_day(uint32_t day) __asm__("ghendufika_date_of_day");
+registers propose_codes(uint32_t first, uint32_t days) __asm__("ghendufika_propose_codes");
 
 /* ---- what the archive wrote, and where a value is */
 
@@ -196,28 +201,33 @@ static void pack_setup(const setup_values *s, int run) {
 
 static size_t rows_at(const setup_values *s, size_t base, size_t from) {
     static const char *names[8] = {"agent1", "agent2", "account1", "account2", "key", "first", "last", "amendment"};
-    size_t at[2][8];
-    for (int r = 0; r < 2; r++)
-        for (int k = 0; k < 8; k++) at[r][k] = find(names[k], from, ROOM, row_bits[k] == 16 ? 2 : 1, s->rows[r][k]);
-    field("setup", "rows", base, at[0][0]);
-    for (int k = 0; k < 8; k++) {
-        field("authorisation", names[k], at[0][0], at[0][k]);
-        if (at[1][k] - at[0][k] != at[1][0] - at[0][0]) give_up("uneven", "rows");
+    size_t row = find("agent1", from, ROOM, 1, s->rows[0][0]), next = find("the next agent1", from, ROOM, 1, s->rows[1][0]), length = next - row;
+    field("setup", "rows", base, row);
+    for (int k = 0; k < 8; k++) { /* in their own row: the byte before the rows is nobody's, and may hold anything */
+        size_t width = row_bits[k] == 16 ? 2 : 1, at = find(names[k], row, row + length, width, s->rows[0][k]);
+        field("authorisation", names[k], row, at);
+        if (find(names[k], next, next + length, width, s->rows[1][k]) - next != at - row) give_up("uneven", "rows");
     }
-    size("authorisation", at[1][0] - at[0][0], 1); /* seen: from one to the next */
-    return at[0][0] + 64 * (at[1][0] - at[0][0]);
+    size("authorisation", length, 1); /* seen: from one to the next */
+    return row + 64 * length;
 }
 
-static void setups(void) {
-    static const char *names[4] = {"first", "days", "accounts", "authorisations"};
-    setup_values s;
-    uint64_t lengths[RUNS], number[RUNS] = {19, 17, 17, 19, 17, 19};
+/* A refused setup is all zero, but the byte between its codes and its rows is nobody's and may hold the answer too: so the answers of results with a
+ * setup are looked for in front of it. */
+static void setup_read_answer(size_t setup) {
+    static const uint64_t number[RUNS] = {19, 17, 17, 19, 17, 19};
     forget();
     for (int run = 0; run < RUNS; run++) { /* no bytes; a head all zero */
         begin();
         read_setup(results[run], packed, number[run] == 19 ? 0 : 5, SLOTS, PLACES, PLACES);
     }
-    field("setup_read", "answer", 0, find("answer", 0, ROOM, 1, number));
+    field("setup_read", "answer", 0, find("answer", 0, setup, 1, number));
+}
+
+static void setups(void) {
+    static const char *names[4] = {"first", "days", "accounts", "authorisations"};
+    setup_values s;
+    uint64_t lengths[RUNS];
     any_setup(&s);
     for (int run = 0; run < RUNS; run++) s.head[1][run] = (uint64_t)(2 + (run * 5 + 1) % 7);
     forget();
@@ -237,6 +247,7 @@ static void setups(void) {
     size_t end = rows_at(&s, base, code + 2);
     size("setup", end - base, 2);
     size("setup_read", end, 8);
+    setup_read_answer(base);
 }
 
 /* ---- books */
@@ -267,27 +278,21 @@ static void opened(void) {
     uint64_t first[RUNS];
     any_of(first, 1000, 60000);
     forget();
+    for (int run = 0; run < RUNS; run++) open_setup(results[run], small_setup((uint16_t)first[run]), LENT);
+    size_t base = field("opened", "book", 0, find("first", 0, ROOM, 2, first));
+    forget();
     for (int run = 0; run < RUNS; run++) {
         ghendufika_setup setup = small_setup(100);
         if (number[run] == 17) setup.days = 0; else setup.rows[0].amendment = 3;
         open_setup(results[run], setup, LENT);
     }
-    field("opened", "answer", 0, find("answer", 0, ROOM, 1, number));
-    forget();
-    for (int run = 0; run < RUNS; run++) open_setup(results[run], small_setup((uint16_t)first[run]), LENT);
-    field("opened", "book", 0, find("first", 0, ROOM, 2, first));
+    field("opened", "answer", 0, find("answer", 0, base, 1, number));
 }
 
 static void opened_packed(void) {
     static const uint64_t number[RUNS] = {19, 17, 17, 19, 17, 19};
     setup_values s;
     uint64_t lengths[RUNS];
-    forget();
-    for (int run = 0; run < RUNS; run++) {
-        begin();
-        open_packed(results[run], packed, number[run] == 19 ? 0 : 5, LENT);
-    }
-    field("opened_packed", "answer", 0, find("answer", 0, ROOM, 1, number));
     any_setup(&s);
     forget();
     for (int run = 0; run < RUNS; run++) {
@@ -296,7 +301,13 @@ static void opened_packed(void) {
         open_packed(results[run], packed, sizeof packed, LENT);
     }
     field("opened_packed", "length", 0, find("length", 0, ROOM, 8, lengths));
-    field("opened_packed", "book", 0, find("first", 0, ROOM, 2, s.head[0]));
+    size_t base = field("opened_packed", "book", 0, find("first", 0, ROOM, 2, s.head[0]));
+    forget();
+    for (int run = 0; run < RUNS; run++) {
+        begin();
+        open_packed(results[run], packed, number[run] == 19 ? 0 : 5, LENT);
+    }
+    field("opened_packed", "answer", 0, find("answer", 0, base, 1, number));
 }
 
 static size_t gated(void) { /* gives the size of a book */
@@ -535,6 +546,69 @@ static void row_place(void) {
     size("row_place", last + 8, 8);
 }
 
+/* ---- the calendar: the clock-change days of 2000 and 2001 and plain ones, by hand; a refusal is 27. Of the two registers
+ * the first alone is looked at where it has room for the struct: what is in the other is nobody's. */
+
+static const uint64_t days_asked[RUNS] = {85, 302, 100, 666, 449, 101}, codes_there[RUNS] = {0, 2, 1, 2, 0, 1}, refused_or_not[RUNS] = {27, 0, 0, 27, 0, 27};
+static const uint32_t no_day = 65536;
+
+static size_t answer_at(const char *type, registers (*question)(uint32_t day)) {
+    forget();
+    for (int run = 0; run < RUNS; run++) keep(run, question(refused_or_not[run] == 27 ? no_day : 100));
+    return field(type, "answer", 0, find("answer", 0, 8, 1, refused_or_not));
+}
+
+static void measured_and_coded(void) {
+    uint64_t periods[RUNS];
+    answer_at("measured", day_length);
+    for (int run = 0; run < RUNS; run++) periods[run] = 46 + 2 * codes_there[run];
+    for (int run = 0; run < RUNS; run++) keep(run, day_length((uint32_t)days_asked[run]));
+    size("measured", field("measured", "periods", 0, find("periods", 0, 8, 1, periods)) + 1, 1);
+    answer_at("coded", code_of_day);
+    for (int run = 0; run < RUNS; run++) keep(run, code_of_day((uint32_t)days_asked[run]));
+    size("coded", field("coded", "code", 0, find("code", 0, 8, 1, codes_there)) + 1, 1);
+}
+
+static const uint64_t dates[3][RUNS] = {{2000, 2024, 2099, 2001, 2026, 2000}, {1, 10, 12, 3, 4, 2}, {2, 27, 31, 25, 16, 29}};
+static const uint64_t days_of_dates[RUNS] = {1, 9066, 36524, 449, 9602, 59};
+
+static void numbered(void) {
+    forget();
+    for (int run = 0; run < RUNS; run++) keep(run, day_of_date(2000, refused_or_not[run] == 27 ? 13 : 1, 1));
+    field("numbered", "answer", 0, find("answer", 0, 8, 1, refused_or_not));
+    for (int run = 0; run < RUNS; run++) keep(run, day_of_date((uint32_t)dates[0][run], (uint32_t)dates[1][run], (uint32_t)dates[2][run]));
+    size("numbered", field("numbered", "day", 0, find("day", 0, 8, 2, days_of_dates)) + 2, 2);
+}
+
+static void dated(void) {
+    answer_at("dated", date_of_day);
+    for (int run = 0; run < RUNS; run++) keep(run, date_of_day((uint32_t)days_of_dates[run]));
+    size_t base = find("year", 0, 8, 2, dates[0]), last = find("day", 0, 8, 1, dates[2]);
+    field("dated", "date", 0, base);
+    field("date", "year", base, base);
+    field("date", "month", base, find("month", 0, 8, 1, dates[1]));
+    field("date", "day", base, last);
+    size("date", last + 1 - base, 2);
+    size("dated", last + 1, 2);
+}
+
+static void proposed(void) {
+    static const uint64_t number[RUNS] = {17, 27, 27, 17, 27, 17};
+    uint64_t codes[2][RUNS];
+    forget();
+    for (int run = 0; run < RUNS; run++) keep(run, propose_codes(number[run] == 17 ? 65535 : 65534, 1));
+    field("proposed", "answer", 0, find("answer", 0, 16, 1, number));
+    for (int run = 0; run < RUNS; run++) { /* the first and the last of 8 days; the six between are plain */
+        uint32_t first = (uint32_t)days_asked[run] - (run % 2 ? 7 : 0);
+        codes[0][run] = run % 2 ? 1 : codes_there[run], codes[1][run] = run % 2 ? codes_there[run] : 1;
+        keep(run, propose_codes(first, 8));
+    }
+    size_t base = find("the first code", 0, 16, 1, codes[0]), last = find("the last code", 0, 16, 1, codes[1]);
+    if (last != base + 7) give_up("uneven", "codes");
+    field("proposed", "codes", 0, base);
+    size("proposed", last + 1, 1);
+}
+
 int main(void) {
     size_t message = message_read_head();
     size("message_read", nullification(message, notification(message)), 8);
@@ -550,5 +624,9 @@ int main(void) {
     figured();
     marked();
     row_place();
+    measured_and_coded();
+    numbered();
+    dated();
+    proposed();
     return 0;
 }

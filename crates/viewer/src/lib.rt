@@ -4,6 +4,8 @@ mod asked; // asked.rt: the numbers that a question names
 pub mod books; // books.rt: a book from C
 pub mod packing; // packing.rt: messages, setups and books out of packed bytes, and into them
 pub mod bars; // bars.rt: one mark, and where a row lies
+pub mod days; // days.rt: the calendar
+pub mod checked; // checked.rt: setups checked against the calendar
 
 ghost use mathlib.Core.Path.{_≡_};
 ghost use Rattle.words.specs.Rules.{answer};
