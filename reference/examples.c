@@ -1,6 +1,6 @@
 /*
- * Examples from the paper's table P1 to P13, from change request A1 and from
- * "Packed messages".
+ * Examples from the paper's table P1 to P13, from change requests A1 and A2
+ * and from "Packed messages".
  *
  *   examples      checks them; exits non-zero if one fails
  *   examples p1   writes the packed P1 story of "The sheet program"
@@ -880,6 +880,491 @@ static void order_of_reading_setups(void)
     CHECK(reading_setup(&setup, 1, 0) == SETUP_WRONG);
 }
 
+/* ---- A2: "A settlement calendar" ----
+ *
+ * The numbers below were counted by hand: 1 January of 2000, 2024, 2025, 2026
+ * and 2099 are days 0, 8,766, 9,132, 9,497 and 36,160, and a day is a Sunday
+ * when its number leaves 1 after division by 7, day 0 being a Saturday. */
+
+struct known_day {
+    unsigned day;
+    struct date date;
+    unsigned code;
+};
+
+static const struct known_day known_days[] = {
+    {0, {2000, 1, 1}, 1}, /* a Saturday */
+    {1, {2000, 1, 2}, 1}, /* a Sunday, not the last */
+    {29, {2000, 1, 30}, 1}, /* the last Sunday of January */
+    {30, {2000, 1, 31}, 1},
+    {31, {2000, 2, 1}, 1},
+    {57, {2000, 2, 27}, 1}, /* the last Sunday of February */
+    {59, {2000, 2, 29}, 1},
+    {60, {2000, 3, 1}, 1},
+    {78, {2000, 3, 19}, 1}, /* a Sunday of March, not the last */
+    {84, {2000, 3, 25}, 1},
+    {85, {2000, 3, 26}, 0}, /* "day 85 is the first short day" */
+    {86, {2000, 3, 27}, 1},
+    {90, {2000, 3, 31}, 1},
+    {91, {2000, 4, 1}, 1},
+    {92, {2000, 4, 2}, 1}, /* the Sunday after */
+    {100, {2000, 4, 10}, 1},
+    {267, {2000, 9, 24}, 1}, /* the last Sunday of September */
+    {295, {2000, 10, 22}, 1}, /* a Sunday of October, not the last */
+    {301, {2000, 10, 28}, 1},
+    {302, {2000, 10, 29}, 2}, /* "day 302 the first long one" */
+    {303, {2000, 10, 30}, 1},
+    {309, {2000, 11, 5}, 1},
+    {365, {2000, 12, 31}, 1}, /* a leap year, and its last Sunday */
+    {366, {2001, 1, 1}, 1},
+    {424, {2001, 2, 28}, 1},
+    {425, {2001, 3, 1}, 1},
+    {449, {2001, 3, 25}, 0}, /* as early as it can be */
+    {666, {2001, 10, 28}, 2},
+    {8825, {2024, 2, 29}, 1},
+    {8826, {2024, 3, 1}, 1},
+    {8855, {2024, 3, 30}, 1},
+    {8856, {2024, 3, 31}, 0}, /* as late as it can be */
+    {8857, {2024, 4, 1}, 1},
+    {9065, {2024, 10, 26}, 1},
+    {9066, {2024, 10, 27}, 2},
+    {9067, {2024, 10, 28}, 1},
+    {9131, {2024, 12, 31}, 1},
+    {9132, {2025, 1, 1}, 1},
+    {9220, {2025, 3, 30}, 0},
+    {9221, {2025, 3, 31}, 1},
+    {9430, {2025, 10, 26}, 2},
+    {9584, {2026, 3, 29}, 0},
+    {9794, {2026, 10, 25}, 2},
+    {9800, {2026, 10, 31}, 1},
+    {36247, {2099, 3, 29}, 0}, /* the last short day */
+    {36457, {2099, 10, 25}, 2}, /* the last long one */
+    {36523, {2099, 12, 30}, 1},
+    {36524, {2099, 12, 31}, 1}, /* the last day */
+};
+
+static bool same_date(struct date one, struct date other)
+{
+    return one.year == other.year && one.month == other.month && one.day == other.day;
+}
+
+static void days_of_the_calendar(void)
+{
+    static const unsigned length_of[3] = {46, 48, 50};
+
+    for (size_t i = 0; i < sizeof known_days / sizeof *known_days; i++) {
+        const struct known_day *known = &known_days[i];
+        struct date date = {9, 9, 9};
+        unsigned code = 9;
+        unsigned periods = 9;
+        unsigned day = 9;
+
+        CHECK(date_of_day(known->day, &date) == DONE && same_date(date, known->date));
+        CHECK(calendar_code(known->day, &code) == DONE && code == known->code);
+        CHECK(calendar_length(known->day, &periods) == DONE);
+        CHECK(periods == length_of[known->code]);
+        CHECK(day_of_date(known->date.year, known->date.month, known->date.day, &day) == DONE);
+        CHECK(day == known->day);
+    }
+}
+
+/* The rule said another way: of the days 25 to 31 of March and of October
+ * just one is a Sunday, and it is the last. */
+static unsigned length_by_rule(unsigned day, struct date date)
+{
+    bool last_sunday = day % 7 == 1 && date.day >= 25;
+
+    if (last_sunday && date.month == 3)
+        return 46;
+    if (last_sunday && date.month == 10)
+        return 50;
+    return 48;
+}
+
+/* "the 200 clock-change days from 2000 to 2099", a short and a long one each
+ * year. */
+static void rule_over_the_whole_calendar(void)
+{
+    unsigned short_days[100] = {0};
+    unsigned long_days[100] = {0};
+    unsigned wrong = 0;
+
+    for (unsigned day = 0; day <= 36524; day++) {
+        struct date date;
+        unsigned periods;
+
+        if (date_of_day(day, &date) != DONE || calendar_length(day, &periods) != DONE
+            || periods != length_by_rule(day, date)) {
+            wrong++;
+            continue;
+        }
+        if (periods == 46)
+            short_days[date.year - 2000]++;
+        if (periods == 50)
+            long_days[date.year - 2000]++;
+    }
+    CHECK(wrong == 0);
+    for (unsigned year = 0; year < 100; year++)
+        CHECK(short_days[year] == 1 && long_days[year] == 1);
+}
+
+/* "day number from date and back": in the order of dates the days that are
+ * answered rise one by one from 0 to 36,524, and each has that date. */
+static void dates_and_back(void)
+{
+    unsigned next = 0;
+    unsigned wrong = 0;
+
+    for (unsigned year = 1998; year <= 2101; year++)
+        for (unsigned month = 0; month <= 14; month++)
+            for (unsigned day = 0; day <= 33; day++) {
+                struct date date;
+                unsigned number;
+
+                if (day_of_date(year, month, day, &number) != DONE)
+                    continue;
+                if (number != next || date_of_day(number, &date) != DONE
+                    || !same_date(date, (struct date){year, month, day}))
+                    wrong++;
+                next++;
+            }
+    CHECK(wrong == 0 && next == 36525);
+}
+
+static bool is_no_day(uint32_t day)
+{
+    struct date date = {9, 9, 9};
+    unsigned code = 9;
+    unsigned periods = 9;
+
+    return calendar_length(day, &periods) == NOT_IN_THE_CALENDAR && periods == 0
+        && calendar_code(day, &code) == NOT_IN_THE_CALENDAR && code == 0
+        && date_of_day(day, &date) == NOT_IN_THE_CALENDAR
+        && same_date(date, (struct date){0, 0, 0});
+}
+
+static bool is_no_date(uint32_t year, uint32_t month, uint32_t day)
+{
+    unsigned number = 9;
+
+    return day_of_date(year, month, day, &number) == NOT_IN_THE_CALENDAR && number == 0;
+}
+
+/* "27 day or date not in 2000 to 2099". */
+static void not_in_the_calendar(void)
+{
+    CHECK(is_no_day(36525)); /* 1 January 2100 */
+    CHECK(is_no_day(LATEST_DAY) && is_no_day(EVERGREEN));
+    CHECK(is_no_date(1999, 12, 31) && is_no_date(2100, 1, 1));
+    CHECK(is_no_date(2100, 2, 28) && is_no_date(2100, 2, 29));
+    CHECK(is_no_date(2001, 2, 29) && is_no_date(2099, 2, 29));
+    CHECK(is_no_date(2000, 2, 30) && is_no_date(2000, 2, 31) && is_no_date(2024, 2, 30));
+    CHECK(is_no_date(2000, 4, 31) && is_no_date(2000, 6, 31) && is_no_date(2000, 9, 31));
+    CHECK(is_no_date(2000, 11, 31) && is_no_date(2000, 1, 32) && is_no_date(2099, 12, 32));
+    CHECK(is_no_date(2000, 1, 0) && is_no_date(2000, 0, 1) && is_no_date(2000, 13, 1));
+    CHECK(is_no_date(2000, 0, 0) && is_no_date(0, 0, 0) && is_no_date(0, 1, 1));
+    /* A year is written in full. */
+    CHECK(is_no_date(24, 3, 31));
+}
+
+/* Numbers that would be right ones if they were cut to 8 or 16 bits. */
+static void wide_numbers_in_the_calendar(void)
+{
+    CHECK(is_no_day(65536) && is_no_day(65636) && is_no_day(65536 + 85));
+    CHECK(is_no_day(UINT32_MAX) && is_no_day(UINT32_C(1) << 31));
+    CHECK(is_no_date(67536, 1, 1) && is_no_date(2000, 257, 1) && is_no_date(2000, 1, 257));
+    CHECK(is_no_date(2000, 65537, 1) && is_no_date(2000, 1, 65537));
+    CHECK(is_no_date(UINT32_MAX, 1, 1) && is_no_date(2000, UINT32_MAX, 1));
+    CHECK(is_no_date(2000, 1, UINT32_MAX));
+    CHECK(is_no_date(UINT32_MAX, UINT32_MAX, UINT32_MAX));
+}
+
+/* Whether these codes are proposed for these days, on a refusal all zero. */
+static bool proposed(uint32_t first_day, uint32_t days, enum answer answer,
+                     const unsigned expected[MOST_DAYS])
+{
+    unsigned code[MOST_DAYS] = {9, 9, 9, 9, 9, 9, 9, 9};
+
+    return propose_codes(first_day, days, code) == answer
+        && memcmp(code, expected, sizeof code) == 0;
+}
+
+static void proposed_codes(void)
+{
+    static const unsigned none[MOST_DAYS] = {0};
+    static const unsigned plain[MOST_DAYS] = {1, 1, 1, 1, 1, 1, 1, 1};
+    static const unsigned one[MOST_DAYS] = {1};
+    static const unsigned two[MOST_DAYS] = {1, 1};
+    static const unsigned seven[MOST_DAYS] = {1, 1, 1, 1, 1, 1, 1};
+    static const unsigned spring[MOST_DAYS] = {1, 0, 1};
+    static const unsigned autumn[MOST_DAYS] = {1, 2, 1};
+    static const unsigned long_one[MOST_DAYS] = {2};
+    static const unsigned ends_short[MOST_DAYS] = {1, 1, 1, 1, 1, 1, 1, 0};
+    static const unsigned begins_long[MOST_DAYS] = {2, 1, 1, 1, 1, 1, 1, 1};
+
+    CHECK(proposed(0, 1, DONE, one));
+    CHECK(proposed(0, 8, DONE, plain));
+    CHECK(proposed(84, 3, DONE, spring));
+    CHECK(proposed(301, 3, DONE, autumn));
+    CHECK(proposed(302, 1, DONE, long_one));
+    CHECK(proposed(78, 8, DONE, ends_short));
+    CHECK(proposed(9066, 8, DONE, begins_long));
+    CHECK(proposed(36524, 1, DONE, one));
+    CHECK(proposed(36523, 2, DONE, two));
+    CHECK(proposed(36518, 7, DONE, seven));
+    CHECK(proposed(36517, 8, DONE, plain));
+
+    /* 17 where a setup of these days would have it. */
+    CHECK(proposed(84, 0, SETUP_WRONG, none) && proposed(84, 9, SETUP_WRONG, none));
+    CHECK(proposed(65534, 2, SETUP_WRONG, none) && proposed(65528, 8, SETUP_WRONG, none));
+    CHECK(proposed(65535, 1, SETUP_WRONG, none));
+
+    /* Then 27 if any of the days is not in the calendar. */
+    CHECK(proposed(36518, 8, NOT_IN_THE_CALENDAR, none));
+    CHECK(proposed(36524, 2, NOT_IN_THE_CALENDAR, none));
+    CHECK(proposed(36525, 1, NOT_IN_THE_CALENDAR, none));
+    CHECK(proposed(65534, 1, NOT_IN_THE_CALENDAR, none));
+    CHECK(proposed(65527, 8, NOT_IN_THE_CALENDAR, none));
+    CHECK(proposed(36525, 0, SETUP_WRONG, none) && proposed(36525, 9, SETUP_WRONG, none));
+
+    /* Nothing is cut. */
+    CHECK(proposed(65636, 1, SETUP_WRONG, none) && proposed(65536, 1, SETUP_WRONG, none));
+    CHECK(proposed(84, 257, SETUP_WRONG, none) && proposed(84, 65537, SETUP_WRONG, none));
+    CHECK(proposed(84, UINT32_MAX, SETUP_WRONG, none));
+    CHECK(proposed(UINT32_MAX, 1, SETUP_WRONG, none) && proposed(UINT32_MAX, 2, SETUP_WRONG, none));
+    CHECK(proposed(UINT32_MAX - 6, 8, SETUP_WRONG, none));
+    CHECK(proposed(UINT32_MAX, UINT32_MAX, SETUP_WRONG, none));
+}
+
+/* The table's accounts and authorisations, two of them evergreen, on these
+ * three days. */
+static struct setup setup_of(unsigned first_day, unsigned code_1, unsigned code_2, unsigned code_3)
+{
+    struct setup setup = table_setup;
+
+    setup.first_day = first_day;
+    setup.day_code[0] = code_1;
+    setup.day_code[1] = code_2;
+    setup.day_code[2] = code_3;
+    return setup;
+}
+
+/* What reading a checked setup answers.  Done, it reads what is read without
+ * the check; refused, everything is zero. */
+static enum answer reading_checked(const struct setup *setup, size_t less, unsigned padding)
+{
+    static const struct setup zero;
+    uint8_t bytes[MOST_SETUP_BYTES];
+    struct setup unchecked;
+    struct setup read;
+    size_t unchecked_used;
+    size_t used = 9;
+    size_t length = pack_setup(setup, bytes);
+
+    memset(&read, 0xff, sizeof read);
+    bytes[length - 1] = (uint8_t)(bytes[length - 1] | padding);
+
+    enum answer answer = read_checked_setup(bytes, length - less, &read, &used);
+
+    if (answer != DONE) {
+        CHECK(used == 0 && memcmp(&read, &zero, sizeof read) == 0);
+        return answer;
+    }
+    CHECK(read_setup(bytes, length - less, &unchecked, &unchecked_used) == DONE);
+    CHECK(used == unchecked_used && memcmp(&read, &unchecked, sizeof read) == 0);
+    return answer;
+}
+
+/* What opening a checked setup answers.  Done, it opens what is opened
+ * without the check; refused, the book stays as it was. */
+static enum answer opening_checked(const struct setup *setup, unsigned slots)
+{
+    static struct book before;
+    static struct book unchecked;
+
+    p2();
+    memcpy(&before, &book, sizeof book);
+
+    enum answer answer = open_checked_book(&book, setup, slots);
+
+    if (answer != DONE) {
+        CHECK(memcmp(&book, &before, sizeof book) == 0);
+        return answer;
+    }
+    CHECK(open_book(&unchecked, setup, slots) == DONE && sound_book(&book));
+    CHECK(memcmp(&book, &unchecked, sizeof book) == 0);
+    return answer;
+}
+
+/* Whether both answer this. */
+static bool both_answer(const struct setup *setup, enum answer answer)
+{
+    return reading_checked(setup, 0, 0) == answer && opening_checked(setup, 16) == answer;
+}
+
+static bool checked(unsigned first_day, unsigned code_1, unsigned code_2, unsigned code_3,
+                    enum answer answer)
+{
+    struct setup setup = setup_of(first_day, code_1, code_2, code_3);
+
+    return both_answer(&setup, answer);
+}
+
+/* "check a setup against it on request". */
+static void checked_setups(void)
+{
+    CHECK(checked(0, 1, 1, 1, DONE));
+    CHECK(checked(84, 1, 0, 1, DONE));
+    CHECK(checked(301, 1, 2, 1, DONE));
+    CHECK(checked(8856, 0, 1, 1, DONE));
+    CHECK(checked(9064, 1, 1, 2, DONE));
+    CHECK(checked(36522, 1, 1, 1, DONE));
+
+    /* "28 code disagrees with the calendar": "once typed a plain day for
+     * October", and the other ways. */
+    CHECK(checked(301, 1, 1, 1, CODE_DISAGREES) && checked(301, 1, 0, 1, CODE_DISAGREES));
+    CHECK(checked(84, 1, 1, 1, CODE_DISAGREES) && checked(84, 1, 2, 1, CODE_DISAGREES));
+    CHECK(checked(0, 0, 1, 1, CODE_DISAGREES) && checked(0, 2, 1, 1, CODE_DISAGREES));
+    CHECK(checked(0, 1, 1, 0, CODE_DISAGREES) && checked(0, 1, 1, 2, CODE_DISAGREES));
+    CHECK(checked(84, 0, 1, 1, CODE_DISAGREES) && checked(85, 1, 0, 1, CODE_DISAGREES));
+    CHECK(checked(100, 1, 0, 2, CODE_DISAGREES)); /* the table's own book */
+
+    /* "27 day or date not in 2000 to 2099". */
+    CHECK(checked(36523, 1, 1, 1, NOT_IN_THE_CALENDAR));
+    CHECK(checked(36524, 1, 1, 1, NOT_IN_THE_CALENDAR));
+    CHECK(checked(36525, 1, 1, 1, NOT_IN_THE_CALENDAR));
+    CHECK(checked(65532, 1, 1, 1, NOT_IN_THE_CALENDAR));
+}
+
+/* Books of 1 and of 8 days. */
+static void checked_setups_of_other_sizes(void)
+{
+    struct setup setup = setup_of(36524, 1, 2, 2); /* codes past the days are not looked at */
+
+    setup.days = 1;
+    CHECK(both_answer(&setup, DONE));
+    setup.day_code[0] = 2;
+    CHECK(both_answer(&setup, CODE_DISAGREES));
+    setup.first_day = 36525;
+    CHECK(both_answer(&setup, NOT_IN_THE_CALENDAR));
+
+    setup = table_setup;
+    setup.days = 8;
+    for (unsigned d = 0; d < 8; d++)
+        setup.day_code[d] = 1;
+    setup.first_day = 36517;
+    CHECK(both_answer(&setup, DONE));
+    setup.first_day = 36518;
+    CHECK(both_answer(&setup, NOT_IN_THE_CALENDAR));
+    setup.first_day = 78;
+    CHECK(both_answer(&setup, CODE_DISAGREES));
+    setup.day_code[7] = 0;
+    CHECK(both_answer(&setup, DONE));
+}
+
+/* Only the days of the book are looked at. */
+static void authorisations_after_2099(void)
+{
+    struct setup setup = setup_of(84, 1, 0, 1);
+
+    setup.authorisation[0].last_day = 36525;
+    setup.authorisation[1].first_day = 40000;
+    setup.authorisation[1].last_day = 65534;
+    CHECK(both_answer(&setup, DONE));
+}
+
+/* "In a checked setup 27, then 28, come after 18 and before 22": reading 19,
+ * 17, 19, 17, 18, 27, 28, 22; opening 17, 18, 27, 28.  The setup below has 35
+ * bytes and 6 bits of padding. */
+static void order_of_checked_setups(void)
+{
+    /* 22 alone; 28 and 22; 27 over a later day, 28 on an earlier one, 22. */
+    struct setup setup = setup_of(84, 1, 0, 1);
+
+    CHECK(reading_checked(&setup, 0, 1) == PADDING_BIT_SET);
+    CHECK(reading_checked(&setup, 0, 32) == PADDING_BIT_SET);
+    setup = setup_of(84, 1, 1, 1);
+    CHECK(reading_checked(&setup, 0, 1) == CODE_DISAGREES);
+    CHECK(reading_checked(&setup, 0, 32) == CODE_DISAGREES);
+    setup = setup_of(36523, 0, 1, 1);
+    CHECK(both_answer(&setup, NOT_IN_THE_CALENDAR));
+    CHECK(reading_checked(&setup, 0, 1) == NOT_IN_THE_CALENDAR);
+    setup = setup_of(36523, 1, 1, 1);
+    CHECK(reading_checked(&setup, 0, 1) == NOT_IN_THE_CALENDAR);
+
+    /* 18 and 22; 18 and 28; 18, 27 and 28. */
+    setup = setup_of(84, 1, 0, 1);
+    setup.authorisation[2].account[1] = 0;
+    CHECK(both_answer(&setup, ROW_WRONG) && reading_checked(&setup, 0, 1) == ROW_WRONG);
+    setup.day_code[1] = 1;
+    CHECK(both_answer(&setup, ROW_WRONG) && reading_checked(&setup, 0, 1) == ROW_WRONG);
+    setup.first_day = 36523;
+    CHECK(both_answer(&setup, ROW_WRONG) && reading_checked(&setup, 0, 1) == ROW_WRONG);
+
+    /* A code 3, with 18 and 27; with 27; with 28 on an earlier day. */
+    setup.day_code[2] = 3;
+    CHECK(both_answer(&setup, SETUP_WRONG) && reading_checked(&setup, 0, 1) == SETUP_WRONG);
+    CHECK(reading_checked(&setup, 1, 0) == BYTES_END_TOO_SOON);
+    CHECK(checked(36525, 3, 1, 1, SETUP_WRONG));
+    CHECK(checked(36523, 1, 1, 3, SETUP_WRONG));
+    CHECK(checked(84, 0, 3, 1, SETUP_WRONG));
+
+    /* Short, with 27; with 28. */
+    setup = setup_of(36525, 1, 1, 1);
+    CHECK(reading_checked(&setup, 1, 0) == BYTES_END_TOO_SOON);
+    CHECK(reading_checked(&setup, 30, 0) == BYTES_END_TOO_SOON);
+    setup = setup_of(84, 1, 1, 1);
+    CHECK(reading_checked(&setup, 1, 0) == BYTES_END_TOO_SOON);
+
+    /* Wrong counts and a last day above 65,534, with 27 and short; under 5
+     * bytes. */
+    CHECK(checked(65533, 1, 1, 1, SETUP_WRONG));
+    setup = setup_of(65533, 1, 1, 1);
+    CHECK(reading_checked(&setup, 30, 0) == SETUP_WRONG);
+    CHECK(reading_checked(&setup, 31, 0) == BYTES_END_TOO_SOON);
+    CHECK(reading_checked(&setup, 35, 0) == BYTES_END_TOO_SOON);
+    setup = setup_of(36525, 1, 1, 1);
+    setup.accounts = 65;
+    CHECK(both_answer(&setup, SETUP_WRONG) && reading_checked(&setup, 1, 0) == SETUP_WRONG);
+    setup = setup_of(36525, 1, 1, 1);
+    setup.days = 9;
+    CHECK(both_answer(&setup, SETUP_WRONG));
+    setup.days = 0;
+    CHECK(both_answer(&setup, SETUP_WRONG));
+}
+
+static void opening_checked_books(void)
+{
+    struct setup setup = setup_of(84, 1, 0, 1);
+
+    CHECK(opening_checked(&setup, 1) == DONE && opening_checked(&setup, 256) == DONE);
+    CHECK(opening_checked(&setup, 0) == SETUP_WRONG && opening_checked(&setup, 257) == SETUP_WRONG);
+    setup.day_code[1] = 1;
+    CHECK(opening_checked(&setup, 0) == SETUP_WRONG);
+    setup.first_day = 36525;
+    CHECK(opening_checked(&setup, 257) == SETUP_WRONG);
+
+    /* No first day is cut. */
+    setup = setup_of(65536 + 84, 1, 0, 1);
+    CHECK(opening_checked(&setup, 16) == SETUP_WRONG);
+    setup.first_day = UINT32_MAX;
+    CHECK(opening_checked(&setup, 16) == SETUP_WRONG);
+}
+
+/* "on request": without it nothing is held against the calendar. */
+static void unchecked_setups(void)
+{
+    static const unsigned first_day[4] = {84, 301, 36523, 65532};
+
+    for (unsigned i = 0; i < 4; i++) {
+        struct setup setup = setup_of(first_day[i], 2, 1, 0);
+
+        CHECK(reading_setup(&setup, 0, 0) == DONE);
+        CHECK(reading_setup(&setup, 0, 1) == PADDING_BIT_SET);
+        CHECK(open_book(&book, &setup, 16) == DONE);
+    }
+}
+
 /* ---- The P1 story of "The sheet program" ---- */
 
 static void write_bytes(const uint8_t *bytes, size_t length)
@@ -972,6 +1457,18 @@ int main(int argc, char **argv)
     lengths();
     order_of_reading_messages();
     order_of_reading_setups();
+    days_of_the_calendar();
+    rule_over_the_whole_calendar();
+    dates_and_back();
+    not_in_the_calendar();
+    wide_numbers_in_the_calendar();
+    proposed_codes();
+    checked_setups();
+    checked_setups_of_other_sizes();
+    authorisations_after_2099();
+    order_of_checked_setups();
+    opening_checked_books();
+    unchecked_setups();
     printf("examples: %u checks, %u failed\n", checks, failures);
     return failures == 0 ? 0 : 1;
 }

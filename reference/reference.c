@@ -16,10 +16,12 @@ _Static_assert(FLT_EVAL_METHOD == 0 || FLT_EVAL_METHOD == 1, "a division rounds 
  * ====================================================================== */
 
 /* "per day a code of 2 bits (0, 1, 2 for 46, 48, 50)". */
+enum day_code { CODE_46 = 0, CODE_48 = 1, CODE_50 = 2 };
+
+static const unsigned length_of_code[3] = {46, 48, 50};
+
 unsigned day_length(const struct setup *setup, unsigned day_place)
 {
-    static const unsigned length_of_code[3] = {46, 48, 50};
-
     return length_of_code[setup->day_code[day_place]];
 }
 
@@ -71,6 +73,195 @@ static bool a_row_is_wrong(const struct setup *setup)
         if (row_is_wrong(setup, &setup->authorisation[a]))
             return true;
     return false;
+}
+
+/* ======================================================================
+ * The settlement calendar (A2)
+ * ====================================================================== */
+
+/* "day 0 being 1 January 2000"; A2: "day 0 is a Saturday" and "from 2000 to
+ * 2099".  The last day is 31 December 2099, day 36,524 (decided). */
+enum { FIRST_YEAR = 2000, LAST_YEAR = 2099, YEARS = 100, CALENDAR_DAYS = 36525 };
+enum { JANUARY = 1, FEBRUARY, MARCH, APRIL, JUNE = 6, SEPTEMBER = 9, OCTOBER, NOVEMBER, DECEMBER };
+enum weekday { MONDAY, TUESDAY, WEDNESDAY, THURSDAY, FRIDAY, SATURDAY, SUNDAY };
+
+/* What walking the calendar writes down: of each day its date and its code,
+ * and of each date its day.  Nothing is written twice. */
+static struct date date_walked[CALENDAR_DAYS];
+static unsigned code_walked[CALENDAR_DAYS];
+static unsigned day_walked[YEARS][12][31];
+
+static bool is_leap_year(unsigned year)
+{
+    return year % 4 == 0 && (year % 100 != 0 || year % 400 == 0);
+}
+
+static unsigned days_of_month(unsigned year, unsigned month)
+{
+    switch (month) {
+    case FEBRUARY:
+        return is_leap_year(year) ? 29 : 28;
+    case APRIL:
+    case JUNE:
+    case SEPTEMBER:
+    case NOVEMBER:
+        return 30;
+    default:
+        return 31;
+    }
+}
+
+static struct date date_after(struct date date)
+{
+    if (date.day < days_of_month(date.year, date.month))
+        return (struct date){date.year, date.month, date.day + 1};
+    if (date.month < DECEMBER)
+        return (struct date){date.year, date.month + 1, 1};
+    return (struct date){date.year + 1, JANUARY, 1};
+}
+
+static enum weekday weekday_after(enum weekday weekday)
+{
+    return weekday == SUNDAY ? MONDAY : weekday + 1;
+}
+
+/* A Sunday with no later Sunday in its month. */
+static bool is_last_sunday(struct date date, enum weekday weekday)
+{
+    return weekday == SUNDAY && date.day + 7 > days_of_month(date.year, date.month);
+}
+
+/* A2: "the last Sunday of March (46) and of October (50)". */
+static enum day_code code_of(struct date date, enum weekday weekday)
+{
+    if (is_last_sunday(date, weekday) && date.month == MARCH)
+        return CODE_46;
+    if (is_last_sunday(date, weekday) && date.month == OCTOBER)
+        return CODE_50;
+    return CODE_48;
+}
+
+/* From Saturday 1 January 2000 forward, day by day. */
+static void walk_the_calendar(void)
+{
+    struct date date = {FIRST_YEAR, JANUARY, 1};
+    enum weekday weekday = SATURDAY;
+
+    for (unsigned day = 0; day < CALENDAR_DAYS; day++) {
+        date_walked[day] = date;
+        code_walked[day] = code_of(date, weekday);
+        day_walked[date.year - FIRST_YEAR][date.month - 1][date.day - 1] = day;
+        date = date_after(date);
+        weekday = weekday_after(weekday);
+    }
+}
+
+static void have_the_calendar(void)
+{
+    static bool walked;
+
+    if (!walked)
+        walk_the_calendar();
+    walked = true;
+}
+
+/* A2: "27 day or date not in 2000 to 2099". */
+static bool day_is_in_calendar(uint32_t day)
+{
+    return day < CALENDAR_DAYS;
+}
+
+/* A2: "Give the length of any day". */
+enum answer calendar_code(uint32_t day, unsigned *code)
+{
+    *code = 0;
+    if (!day_is_in_calendar(day))
+        return NOT_IN_THE_CALENDAR;
+    have_the_calendar();
+    *code = code_walked[day];
+    return DONE;
+}
+
+enum answer calendar_length(uint32_t day, unsigned *periods)
+{
+    unsigned code;
+    enum answer answer = calendar_code(day, &code);
+
+    *periods = answer == DONE ? length_of_code[code] : 0;
+    return answer;
+}
+
+/* A2: "day number from date".  A date that does not exist gives 27 (decided):
+ * no day of the walk has it, so the day found for it has another. */
+enum answer day_of_date(uint32_t year, uint32_t month, uint32_t day, unsigned *number)
+{
+    *number = 0;
+    if (year < FIRST_YEAR || year > LAST_YEAR || month < 1 || month > 12 || day < 1 || day > 31)
+        return NOT_IN_THE_CALENDAR;
+    have_the_calendar();
+
+    unsigned found = day_walked[year - FIRST_YEAR][month - 1][day - 1];
+    struct date date = date_walked[found];
+
+    if (date.year != year || date.month != month || date.day != day)
+        return NOT_IN_THE_CALENDAR;
+    *number = found;
+    return DONE;
+}
+
+/* A2: "and back". */
+enum answer date_of_day(uint32_t day, struct date *date)
+{
+    *date = (struct date){0, 0, 0};
+    if (!day_is_in_calendar(day))
+        return NOT_IN_THE_CALENDAR;
+    have_the_calendar();
+    *date = date_walked[day];
+    return DONE;
+}
+
+/* What a setup of these days has wrong: "1 to 8 consecutive settlement
+ * days", "last day above 65,534".  Any 32-bit numbers: the sum is taken only
+ * where it cannot be cut. */
+static bool days_are_wrong(uint32_t first_day, uint32_t days)
+{
+    return days < 1 || days > MOST_DAYS || first_day > LATEST_DAY
+        || first_day + days - 1 > LATEST_DAY;
+}
+
+/* 17 where a setup of these days would have it, then 27 (decided). */
+enum answer propose_codes(uint32_t first_day, uint32_t days, unsigned code[MOST_DAYS])
+{
+    for (unsigned d = 0; d < MOST_DAYS; d++)
+        code[d] = 0;
+    if (days_are_wrong(first_day, days))
+        return SETUP_WRONG;
+    for (unsigned d = 0; d < days; d++)
+        if (!day_is_in_calendar(first_day + d))
+            return NOT_IN_THE_CALENDAR;
+    for (unsigned d = 0; d < days; d++)
+        calendar_code(first_day + d, &code[d]);
+    return DONE;
+}
+
+/* A2: "27 day or date not in 2000 to 2099; 28 code disagrees with the
+ * calendar. In a checked setup 27, then 28".  27 is decided over all days of
+ * the book before 28 over any (decided), and only the days of the book are
+ * looked at: an authorisation may end after 2099 (decided).  Asked only where
+ * 17 is not given. */
+static enum answer refusal_by_calendar(const struct setup *setup)
+{
+    for (unsigned d = 0; d < setup->days; d++)
+        if (!day_is_in_calendar(setup->first_day + d))
+            return NOT_IN_THE_CALENDAR;
+    for (unsigned d = 0; d < setup->days; d++) {
+        unsigned code;
+
+        calendar_code(setup->first_day + d, &code);
+        if (setup->day_code[d] != code)
+            return CODE_DISAGREES;
+    }
+    return DONE;
 }
 
 /* ======================================================================
@@ -295,8 +486,11 @@ static void take_row(struct bits *bits, struct authorisation *row)
  *
  * "Setup order: under 5 bytes 19, wrong counts, last day above 65,534 or lent
  * lengths 17, short 19, code 3 17, rows 18, 22."  Lent lengths are never
- * wrong here (decided): the tables are the book's own. */
-enum answer read_setup(const uint8_t *bytes, size_t length, struct setup *setup, size_t *used)
+ * wrong here (decided): the tables are the book's own.
+ *
+ * A2: "In a checked setup 27, then 28, come after 18 and before 22." */
+static enum answer read_either_setup(const uint8_t *bytes, size_t length, bool checked,
+                                     struct setup *setup, size_t *used)
 {
     struct setup read = {0};
     struct bits bits = {bytes, 0};
@@ -323,11 +517,25 @@ enum answer read_setup(const uint8_t *bytes, size_t length, struct setup *setup,
         take_row(&bits, &read.authorisation[a]);
     if (a_row_is_wrong(&read))
         return ROW_WRONG;
+    if (checked && refusal_by_calendar(&read) != DONE)
+        return refusal_by_calendar(&read);
     if (a_padding_bit_is_set(&bits))
         return PADDING_BIT_SET;
     *setup = read;
     *used = whole;
     return DONE;
+}
+
+enum answer read_setup(const uint8_t *bytes, size_t length, struct setup *setup, size_t *used)
+{
+    return read_either_setup(bytes, length, false, setup, used);
+}
+
+enum answer read_checked_setup(const uint8_t *bytes, size_t length, struct setup *setup,
+                               size_t *used)
+{
+    *setup = (struct setup){0};
+    return read_either_setup(bytes, length, true, setup, used);
 }
 
 /* "Gate: kind 0 (2 bits). One byte." */
@@ -428,16 +636,25 @@ enum answer read_message(const uint8_t *bytes, size_t length, struct message *me
  * Opening and gates
  * ====================================================================== */
 
-/* "Opening closes no gate, holds no identifier and sets every place to the
- * mark."  Order: "opening 17, 18". */
-enum answer open_book(struct book *book, const struct setup *setup, unsigned slots)
+/* Order: "opening 17, 18". */
+static enum answer refusal_of_opening(const struct setup *setup, unsigned slots)
 {
     if (counts_are_wrong(setup) || last_day_is_wrong(setup) || a_day_code_is_wrong(setup)
         || slots < 1 || slots > MOST_SLOTS)
         return SETUP_WRONG;
     if (a_row_is_wrong(setup))
         return ROW_WRONG;
+    return DONE;
+}
 
+/* "Opening closes no gate, holds no identifier and sets every place to the
+ * mark." */
+enum answer open_book(struct book *book, const struct setup *setup, unsigned slots)
+{
+    enum answer answer = refusal_of_opening(setup, slots);
+
+    if (answer != DONE)
+        return answer;
     book->setup = *setup;
     book->slots = slots;
     book->gates_closed = 0;
@@ -448,6 +665,23 @@ enum answer open_book(struct book *book, const struct setup *setup, unsigned slo
                 for (unsigned p = 0; p < MOST_PERIODS; p++)
                     book->side[side][s][d][p] = NOTHING_STANDS;
     return DONE;
+}
+
+/* A2: "In a checked setup 27, then 28, come after 18": opening a checked one
+ * 17, 18, 27, 28 (decided).  The first day is held whole against the last day
+ * there is. */
+enum answer open_checked_book(struct book *book, const struct setup *setup, unsigned slots)
+{
+    if (days_are_wrong(setup->first_day, setup->days))
+        return SETUP_WRONG;
+
+    enum answer answer = refusal_of_opening(setup, slots);
+
+    if (answer == DONE)
+        answer = refusal_by_calendar(setup);
+    if (answer == DONE)
+        answer = open_book(book, setup, slots);
+    return answer;
 }
 
 /* "One call closes the next gate."  Order: "gate 1, 2". */

@@ -2,11 +2,11 @@
  * The book of the scope paper, written a second time and independently.
  *
  * Everything here follows the sentences of the scope paper ("What to make
- * and its exact rules") and of change request A1 ("Clock-change days follow
- * the local hour").  Names are the paper's words.  A comment in quotes is a
- * sentence of the paper, and of the request where it begins with A1;
- * "(decided)" marks a reading that was settled because the paper leaves it
- * open (README.md lists them).
+ * and its exact rules") and of change requests A1 ("Clock-change days follow
+ * the local hour") and A2 ("A settlement calendar").  Names are the paper's
+ * words.  A comment in quotes is a sentence of the paper, and of a request
+ * where it begins with A1 or A2; "(decided)" marks a reading that was settled
+ * because the paper leaves it open (README.md lists them).
  *
  * Numbering: accounts, authorisations and slots count from 0; periods and
  * sides from 1; days are day numbers (0 is 1 January 2000).
@@ -69,7 +69,9 @@ enum answer {
     MORE_THAN_50_ENTRIES = 21,
     PADDING_BIT_SET = 22,
     IDENTIFIER_NOT_HELD = 25,
-    TOTAL_TOO_LARGE = 26
+    TOTAL_TOO_LARGE = 26,
+    NOT_IN_THE_CALENDAR = 27,
+    CODE_DISAGREES = 28
 };
 
 /* ---- What is handed in ---- */
@@ -190,6 +192,13 @@ struct day_figures {
     double net;
 };
 
+/* Months and days of a month count from 1: {2000, 1, 1} is day 0. */
+struct date {
+    unsigned year;
+    unsigned month;
+    unsigned day;
+};
+
 /* ---- Facts about a book ---- */
 
 /* The length of the day at this place in the book (from 0). */
@@ -208,15 +217,45 @@ bool gate_is_open(const struct book *book, unsigned day_place, unsigned period);
 /* The sentence "A sound book: ...". */
 bool sound_book(const struct book *book);
 
+/* ---- The settlement calendar (A2); on a refusal every result is zero ----
+ *
+ * "Give the length of any day, day number from date and back".  Like the
+ * questions about a book these take any 32-bit numbers, and none is cut: day
+ * 65,636 is not day 100, year 67,536 is not 2000.
+ *
+ * The first question walks the calendar; those after it look it up.  Where
+ * several threads ask, one has to have asked before the others. */
+
+enum answer calendar_length(uint32_t day, unsigned *periods);
+
+/* The length as a setup's day code: 0, 1, 2 for 46, 48, 50. */
+enum answer calendar_code(uint32_t day, unsigned *code);
+
+enum answer day_of_date(uint32_t year, uint32_t month, uint32_t day, unsigned *number);
+enum answer date_of_day(uint32_t day, struct date *date);
+
+/* The codes for a setup of so many days from the first; places past them are
+ * zero. */
+enum answer propose_codes(uint32_t first_day, uint32_t days, unsigned code[MOST_DAYS]);
+
 /* ---- Reading packed bytes; "used" is zero on a refusal ---- */
 
 enum answer read_setup(const uint8_t *bytes, size_t length, struct setup *setup, size_t *used);
 enum answer read_message(const uint8_t *bytes, size_t length, struct message *message,
                          size_t *used);
 
+/* A2: "check a setup against it on request".  The setup too is zero on a
+ * refusal. */
+enum answer read_checked_setup(const uint8_t *bytes, size_t length, struct setup *setup,
+                               size_t *used);
+
 /* ---- What changes a book; a refusal leaves it unchanged ---- */
 
 enum answer open_book(struct book *book, const struct setup *setup, unsigned slots);
+
+/* A2: the same with the setup held against the calendar. */
+enum answer open_checked_book(struct book *book, const struct setup *setup, unsigned slots);
+
 enum answer close_gate(struct book *book);
 enum answer notify(struct book *book, const struct notification *notification,
                    struct acceptance *acceptance);

@@ -3,7 +3,8 @@
  * standard input and prints the sheet.
  *
  *   sheet        the paper's lines only
- *   sheet all    then every identifier, row, mark and day figure
+ *   sheet all    then every identifier, row, mark and day figure, and what
+ *                the setup is answered when it is checked (A2)
  */
 #include "reference.h"
 
@@ -212,6 +213,20 @@ static void print_all(void)
     print_day_figures();
 }
 
+/* c ANSWER: of the setup held against the calendar (A2), read and opened.  A
+ * refused setup has the line too. */
+static void print_checked(const struct input *input)
+{
+    static struct book checked;
+    struct setup setup;
+    size_t used;
+    enum answer answer = read_checked_setup(input->bytes, input->length, &setup, &used);
+
+    if (answer == DONE)
+        answer = open_checked_book(&checked, &setup, SHEET_SLOTS);
+    printf("c %d\n", (int)answer);
+}
+
 /* "Line 1: first day, days, accounts." ... "end: messages seen." */
 static void print_sheet(const uint8_t *bytes, size_t length, bool all)
 {
@@ -244,6 +259,8 @@ int main(int argc, char **argv)
         printf("setup %d\n", (int)answer);
     else
         print_sheet(input.bytes + used, input.length - used, all);
+    if (all)
+        print_checked(&input);
     free(input.bytes);
     return 0;
 }

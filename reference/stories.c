@@ -24,7 +24,8 @@
  *   16  the sheet asks only for days, periods and sides that the book has;
  *   23, 24  a sheet writes no packed message or setup;
  *   25  the sheet asks only for identifiers that it finds held;
- *   26  16 slots of 99,999,999 kWh stay below 99,999,999,999.
+ *   26  16 slots of 99,999,999 kWh stay below 99,999,999,999;
+ *   27, 28  the sheet's setup is not checked against the calendar.
  */
 #include "packing.h"
 #include "reference.h"
