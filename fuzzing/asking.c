@@ -101,29 +101,37 @@ static void some_lengths(size_t days) {
     if (one_in(20)) asked.lent2 = one_in(4) ? huge[below(5)] : asked.lent2 + (size_t)ONE_OF(1, -1, 50, -50);
 }
 
-/* "Setup order: under 5 bytes 19, wrong counts, last day above 65,534 or lent lengths 17": the second program knows nothing of lent lengths, and
- * where they are wrong nothing but 19 for the first 5 bytes comes before them. The days are bits 16 to 19. */
-enum answer setup_expected(const uint8_t *bytes, struct setup *setup, size_t *used) {
-    enum answer answer = read_setup(bytes, asked.length, setup, used);
-    if (asked.length >= 5 && !lengths_fit(asked.slots, bytes[2] >> 4, asked.lent1, asked.lent2)) {
-        *used = 0;
-        return SETUP_WRONG;
-    }
-    return answer;
-}
+/* Reading a setup as it is, or held against the calendar. */
+struct reading {
+    const char *name;
+    struct seen *seen;
+    size_t (*some_bytes)(uint8_t bytes[MOST_BYTES]);
+    setup_reader *by_second;
+    ghendufika_setup_read (*read)(const uint8_t *bytes, size_t length, size_t slots, size_t lent1, size_t lent2);
+};
 
-void try_read_setup(void) {
+static void try_reading(const struct reading *reading) {
     struct setup setup;
     size_t used;
-    lend_bytes(made, some_setup_bytes(made));
+    lend_bytes(made, reading->some_bytes(made));
     some_lengths(asked.length > 2 ? made[2] >> 4 : 1);
-    enum answer expected = setup_expected(made, &setup, &used);
-    ask("ghendufika_read_setup", SAY_BYTES | SAY_LENGTHS);
-    ghendufika_setup_read read = ghendufika_read_setup(asked.bytes, asked.length, asked.slots, asked.lent1, asked.lent2);
-    note(&seen_read_setup, read.answer);
+    struct handed handed = {made, asked.length, asked.slots, asked.lent1, asked.lent2};
+    enum answer expected = setup_expected(reading->by_second, &handed, &setup, &used);
+    ask(reading->name, SAY_BYTES | SAY_LENGTHS);
+    ghendufika_setup_read read = reading->read(asked.bytes, asked.length, asked.slots, asked.lent1, asked.lent2);
+    note(reading->seen, read.answer);
     must(read.answer == expected, "the answer to a packed setup is the second program's");
     must(read.length == used, "the length of a setup is the second program's, and 0 with a refusal");
     ghendufika_setup wanted = {0};
     if (expected == DONE) wanted = setup_of_second(&setup);
     must(same_setup(&read.setup, &wanted), "the setup read is the second program's, and all zero with a refusal");
+}
+
+void try_read_setup(void) {
+    try_reading(&(const struct reading){"ghendufika_read_setup", &seen_read_setup, some_setup_bytes, read_setup, ghendufika_read_setup});
+}
+
+void try_read_setup_checked(void) {
+    try_reading(&(const struct reading){"ghendufika_read_setup_checked", &seen_read_setup_checked, some_calendar_setup_bytes, read_checked_setup,
+                                        ghendufika_read_setup_checked});
 }

@@ -41,18 +41,27 @@ static bool is_empty_book(void) {
     return true;
 }
 
-void try_open(void) {
-    asked.setup = right_setup();
+/* Opening a setup as it is, or held against the calendar. */
+struct opening {
+    const char *name;
+    struct seen *seen;
+    ghendufika_setup (*some_setup)(void);
+    enum answer (*by_second)(struct book *book, const struct setup *setup, unsigned slots);
+    ghendufika_opened (*open)(ghendufika_setup setup, uint32_t *held, size_t slots, int32_t *side1, size_t lent1, int32_t *side2, size_t lent2);
+};
+
+static void try_opening(const struct opening *opening) {
+    asked.setup = opening->some_setup();
     if (one_in(4)) spoil_setup(&asked.setup);
     if (one_in(12)) spoil_setup(&asked.setup);
     make_tables_for(&asked.setup);
     bool fit = lengths_fit(before.slots, asked.setup.days, before.lent1, before.lent2);
     struct setup told = told_setup(&asked.setup);
-    enum answer expected = open_book(&second, &told, fit ? (unsigned)before.slots : 0);
+    enum answer expected = opening->by_second(&second, &told, fit ? (unsigned)before.slots : 0);
 
-    ask("ghendufika_open", SAY_SETUP | SAY_TABLES);
-    ghendufika_opened opened = ghendufika_open(asked.setup, TABLES_TO_CHANGE);
-    note(&seen_open, opened.answer);
+    ask(opening->name, SAY_SETUP | SAY_TABLES);
+    ghendufika_opened opened = opening->open(asked.setup, TABLES_TO_CHANGE);
+    note(opening->seen, opened.answer);
     must(opened.answer == expected, "the answer to opening is the second program's");
     check_tables(opened.answer);
     if (opened.answer != DONE) {
@@ -65,6 +74,12 @@ void try_open(void) {
     model.slots = before.slots; /* a large book is taken too */
     adopt(&opened.book);
     accepted.count = 255;
+}
+
+void try_open(void) { try_opening(&(const struct opening){"ghendufika_open", &seen_open, right_setup, open_book, ghendufika_open}); }
+
+void try_open_checked(void) {
+    try_opening(&(const struct opening){"ghendufika_open_checked", &seen_open_checked, calendar_setup, open_checked_book, ghendufika_open_checked});
 }
 
 /* ---- soundness and gates */

@@ -91,6 +91,8 @@ void say_call(FILE *out) {
     if (parts & SAY_IDENTIFIER) fprintf(out, "  identifier: originator %u, reference %u\n", asked.originator, asked.reference);
     if (parts & SAY_ACCOUNT) fprintf(out, "  account %u\n", asked.account);
     if (parts & SAY_DAY) fprintf(out, "  day %u\n", asked.day);
+    if (parts & SAY_DAYS) fprintf(out, "  so many days from it on: %u\n", asked.days);
+    if (parts & SAY_DATE) fprintf(out, "  date: year %u, month %u, day %u\n", asked.date.year, asked.date.month, asked.date.day);
     if (parts & SAY_PERIOD) fprintf(out, "  period %u\n", asked.period);
     if (parts & SAY_SIDE) fprintf(out, "  side %u\n", asked.side);
     if (parts & SAY_ROOM) fprintf(out, "  room %zu %zu %zu\n", asked.room[0], asked.room[1], asked.room[2]);

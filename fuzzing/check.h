@@ -9,7 +9,8 @@
 
 enum said {
     SAY_BYTES = 1, SAY_FIELD = 2, SAY_TABLES = 4, SAY_NOTIFICATION = 8, SAY_NULLIFICATION = 16, SAY_ACCOUNT = 32,
-    SAY_DAY = 64, SAY_PERIOD = 128, SAY_IDENTIFIER = 256, SAY_SIDE = 512, SAY_ROOM = 1024, SAY_LENGTHS = 2048, SAY_SETUP = 4096, SAY_KIND = 8192
+    SAY_DAY = 64, SAY_PERIOD = 128, SAY_IDENTIFIER = 256, SAY_SIDE = 512, SAY_ROOM = 1024, SAY_LENGTHS = 2048, SAY_SETUP = 4096, SAY_KIND = 8192,
+    SAY_DATE = 16384, SAY_DAYS = 32768
 };
 
 /* The arguments of the call; `parts` says which of them it has. Its tables are `before`. Numbers that are asked about may be any of 32 bits. */
@@ -24,6 +25,8 @@ struct asked {
     struct { uint32_t account, other, first; } nullification;
     uint8_t kind;
     uint32_t account, day, period, originator, reference, side;
+    struct { uint32_t year, month, day; } date;
+    uint32_t days; /* so many, from `day` on */
     size_t room[3];
     size_t slots, lent1, lent2;
 };

@@ -33,11 +33,23 @@ struct seen seen_open_packed = {.name = "open_packed", .can_come = "0 17 18 19 2
 struct seen seen_mark = {.name = "mark", .can_come = "0 1 15 16 25"};
 struct seen seen_row = {.name = "row", .can_come = "0 1 16 25"};
 
+struct seen seen_day_length = {.name = "day_length", .can_come = "0 27"};
+struct seen seen_code_of_day = {.name = "code_of_day", .can_come = "0 27"};
+struct seen seen_code = {.name = "code_of_day: code", .can_come = "0 1 2"};
+struct seen seen_day_of_date = {.name = "day_of_date", .can_come = "0 27"};
+struct seen seen_date_of_day = {.name = "date_of_day", .can_come = "0 27"};
+struct seen seen_propose_codes = {.name = "propose_codes", .can_come = "0 17 27"};
+struct seen seen_read_setup_checked = {.name = "read_setup_checked", .can_come = "0 17 18 19 22 27 28"};
+struct seen seen_open_checked = {.name = "open_checked", .can_come = "0 17 18 27 28"};
+struct seen seen_open_packed_checked = {.name = "open_packed_checked", .can_come = "0 17 18 19 22 27 28"};
+
 void expect_numbers(void) {
     struct seen *rows[] = {&seen_message_refusal, &seen_message_length, &seen_message_field, &seen_read_setup, &seen_open, &seen_is_sound,
                            &seen_close_gate, &seen_notify, &seen_kind, &seen_nullify, &seen_apply, &seen_applied_kind, &seen_apply_all, &seen_run_answer, &seen_total,
                            &seen_day_totals, &seen_figures, &seen_row_refusal, &seen_day_marks, &seen_case,
                            &seen_read_message, &seen_write_message, &seen_write_setup, &seen_open_packed, &seen_mark, &seen_row,
+                           &seen_day_length, &seen_code_of_day, &seen_code, &seen_day_of_date, &seen_date_of_day, &seen_propose_codes,
+                           &seen_read_setup_checked, &seen_open_checked, &seen_open_packed_checked,
     };
     for (size_t k = 0; k < sizeof rows / sizeof rows[0]; k++) expect(rows[k]);
 }
@@ -68,11 +80,21 @@ static const struct {
     {1, try_open_packed},
     {6, try_mark},
     {5, try_row},
+    {1, try_day_length},
+    {1, try_code_of_day},
+    {3, try_day_of_date},
+    {2, try_date_of_day},
+    {2, try_propose_codes},
+    {4, try_read_setup_checked},
+    {1, try_open_checked},
+    {2, try_open_packed_checked},
     {1, law_totals_of_all_accounts_come_to_zero},
     {1, law_two_accounts_see_negated_marks},
     {2, law_apply_is_questions_and_a_call_by_struct},
     {1, law_apply_all_is_apply_one_by_one},
     {1, law_day_totals_are_the_totals},
+    {2, law_checked_setup_is_held_against_the_codes},
+    {1, law_days_asked_apart_agree},
 };
 
 enum { LINES = sizeof table / sizeof table[0] };

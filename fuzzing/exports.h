@@ -10,9 +10,11 @@ void try_message_refusal(void);
 void try_message_length(void);
 void try_message_field(void);
 void try_read_setup(void);
+void try_read_setup_checked(void);
 
 /* changing.c: what changes a book */
 void try_open(void);
+void try_open_checked(void);
 void try_is_sound(void);
 void try_close_gate(void);
 void try_notify(void);
@@ -32,8 +34,16 @@ void try_read_message(void);
 void try_write_message(void);
 void try_write_setup(void);
 void try_open_packed(void);
+void try_open_packed_checked(void);
 void try_mark(void);
 void try_row(void);
+
+/* calendar.c: days and dates */
+void try_day_length(void);
+void try_code_of_day(void);
+void try_day_of_date(void);
+void try_date_of_day(void);
+void try_propose_codes(void);
 
 /* laws.c */
 void law_totals_of_all_accounts_come_to_zero(void);
@@ -41,6 +51,8 @@ void law_two_accounts_see_negated_marks(void);
 void law_apply_is_questions_and_a_call_by_struct(void);
 void law_apply_all_is_apply_one_by_one(void);
 void law_day_totals_are_the_totals(void);
+void law_checked_setup_is_held_against_the_codes(void);
+void law_days_asked_apart_agree(void);
 
 void expect_numbers(void); /* enters every row of the table of numbers seen */
 void try_one(void);        /* one line of the table, by its weight */

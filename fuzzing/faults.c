@@ -26,6 +26,9 @@ const char *const fault_names[] = {
     "nullified_account_is_cut_to_8_bits", "day_of_a_nullification_is_cut_to_16_bits",
     "refused_message_has_a_length", "refused_message_has_a_kind", "kind_of_a_packed_notification_is_lost", "slot_of_a_packed_notification_is_lost",
     "gate_has_a_kind", "reading_comes_before_soundness", "short_day_shows_its_own_period_3", "long_day_has_zero_in_5_and_6",
+    "clocks_change_a_week_early", "day_of_a_code_is_cut_to_16_bits", "year_of_a_date_is_cut_to_16_bits", "thirtieth_of_february_is_a_day",
+    "day_after_2099_has_a_date", "day_past_those_proposed_has_a_code", "disagreeing_code_comes_before_the_calendar",
+    "padding_bit_comes_before_a_disagreeing_code", "disagreeing_code_changes_a_place", "checked_opening_does_not_ask_the_calendar",
     NULL
 };
 
@@ -255,3 +258,57 @@ ghendufika_row_place faulty_row(ghendufika_book book, const uint32_t *held, size
     return place;
 }
 
+/* ---- the calendar (A2) */
+
+ghendufika_measured faulty_day_length(uint32_t day) {
+    ghendufika_measured measured = ghendufika_day_length(day);
+    ghendufika_measured a_week_on = ghendufika_day_length(day + 7);
+    return is("clocks_change_a_week_early") && measured.answer == 0 && a_week_on.answer == 0 ? a_week_on : measured;
+}
+
+ghendufika_coded faulty_code_of_day(uint32_t day) {
+    return ghendufika_code_of_day(is("day_of_a_code_is_cut_to_16_bits") ? (uint16_t)day : day);
+}
+
+ghendufika_numbered faulty_day_of_date(uint32_t year, uint32_t month, uint32_t day) {
+    if (is("year_of_a_date_is_cut_to_16_bits")) year = (uint16_t)year;
+    if (is("thirtieth_of_february_is_a_day") && month == 2 && day == 30) month = 3, day = 1;
+    return ghendufika_day_of_date(year, month, day);
+}
+
+ghendufika_dated faulty_date_of_day(uint32_t day) {
+    ghendufika_dated dated = ghendufika_date_of_day(day);
+    if (is("day_after_2099_has_a_date") && day == GHENDUFIKA_LAST_CALENDAR_DAY + 1) dated = (ghendufika_dated){0, {2100, 1, 1}};
+    return dated;
+}
+
+ghendufika_proposed faulty_propose_codes(uint32_t first, uint32_t days) {
+    ghendufika_proposed proposed = ghendufika_propose_codes(first, days);
+    if (is("day_past_those_proposed_has_a_code") && proposed.answer == 0 && days < 8) proposed.codes[days] = ghendufika_code_of_day(first + days).code;
+    return proposed;
+}
+
+/* Whether the first day is in the calendar and its code another. From the bytes, since a refused setup is not shown: the code is bits 34 and 35. */
+static bool first_code_disagrees(const uint8_t *bytes) {
+    ghendufika_coded coded = ghendufika_code_of_day((uint32_t)bytes[0] << 8 | bytes[1]);
+    return coded.answer == 0 && coded.code != (bytes[4] >> 4 & 3);
+}
+
+ghendufika_setup_read faulty_read_setup_checked(const uint8_t *bytes, size_t length, size_t slots, size_t lent1, size_t lent2) {
+    ghendufika_setup_read read = ghendufika_read_setup_checked(bytes, length, slots, lent1, lent2);
+    uint8_t unchecked = ghendufika_read_setup(bytes, length, slots, lent1, lent2).answer;
+    if (is("disagreeing_code_comes_before_the_calendar") && read.answer == 27 && first_code_disagrees(bytes)) read.answer = 28;
+    if (is("padding_bit_comes_before_a_disagreeing_code") && read.answer == 28) read.answer = unchecked == 22 ? 22 : 28;
+    return read;
+}
+
+ghendufika_opened faulty_open_checked(ghendufika_setup setup, uint32_t *held, size_t slots, int32_t *side1, size_t lent1, int32_t *side2, size_t lent2) {
+    ghendufika_opened opened = ghendufika_open_checked(setup, held, slots, side1, lent1, side2, lent2);
+    if (is("disagreeing_code_changes_a_place") && opened.answer == 28) side2[lent2 - 1] ^= 1;
+    return opened;
+}
+
+ghendufika_opened_packed faulty_open_packed_checked(const uint8_t *bytes, size_t length, uint32_t *held, size_t slots, int32_t *side1, size_t lent1, int32_t *side2, size_t lent2) {
+    if (is("checked_opening_does_not_ask_the_calendar")) return ghendufika_open_packed(bytes, length, held, slots, side1, lent1, side2, lent2);
+    return ghendufika_open_packed_checked(bytes, length, held, slots, side1, lent1, side2, lent2);
+}

@@ -31,6 +31,15 @@ ghendufika_opened_packed faulty_open_packed(const uint8_t *bytes, size_t length,
 ghendufika_marked faulty_mark(ghendufika_book book, const uint32_t *held, size_t slots, const int32_t *side1, size_t lent1, const int32_t *side2, size_t lent2, uint32_t originator, uint32_t reference, uint32_t account, uint32_t day, uint32_t period);
 ghendufika_row_place faulty_row(ghendufika_book book, const uint32_t *held, size_t slots, const int32_t *side1, size_t lent1, const int32_t *side2, size_t lent2, uint32_t originator, uint32_t reference, uint32_t day, uint32_t side);
 
+ghendufika_measured faulty_day_length(uint32_t day);
+ghendufika_coded faulty_code_of_day(uint32_t day);
+ghendufika_numbered faulty_day_of_date(uint32_t year, uint32_t month, uint32_t day);
+ghendufika_dated faulty_date_of_day(uint32_t day);
+ghendufika_proposed faulty_propose_codes(uint32_t first, uint32_t days);
+ghendufika_setup_read faulty_read_setup_checked(const uint8_t *bytes, size_t length, size_t slots, size_t lent1, size_t lent2);
+ghendufika_opened faulty_open_checked(ghendufika_setup setup, uint32_t *held, size_t slots, int32_t *side1, size_t lent1, int32_t *side2, size_t lent2);
+ghendufika_opened_packed faulty_open_packed_checked(const uint8_t *bytes, size_t length, uint32_t *held, size_t slots, int32_t *side1, size_t lent1, int32_t *side2, size_t lent2);
+
 #ifndef FAULTS_THEMSELVES
 #define ghendufika_message_refusal faulty_message_refusal
 #define ghendufika_message_length faulty_message_length
@@ -54,6 +63,14 @@ ghendufika_row_place faulty_row(ghendufika_book book, const uint32_t *held, size
 #define ghendufika_open_packed faulty_open_packed
 #define ghendufika_mark faulty_mark
 #define ghendufika_row faulty_row
+#define ghendufika_day_length faulty_day_length
+#define ghendufika_code_of_day faulty_code_of_day
+#define ghendufika_day_of_date faulty_day_of_date
+#define ghendufika_date_of_day faulty_date_of_day
+#define ghendufika_propose_codes faulty_propose_codes
+#define ghendufika_read_setup_checked faulty_read_setup_checked
+#define ghendufika_open_checked faulty_open_checked
+#define ghendufika_open_packed_checked faulty_open_packed_checked
 #endif
 
 #endif

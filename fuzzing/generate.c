@@ -32,6 +32,10 @@ static ghendufika_authorisation right_row(const ghendufika_setup *setup) {
     return row;
 }
 
+static void give_rows(ghendufika_setup *setup) {
+    for (unsigned row = 0; row < setup->authorisations; row++) setup->rows[row] = right_row(setup);
+}
+
 /* Nothing in the bytes between fields, and nothing past the counts, may matter: chance fills them. */
 ghendufika_setup right_setup(void) {
     ghendufika_setup setup;
@@ -42,7 +46,7 @@ ghendufika_setup right_setup(void) {
     setup.authorisations = (uint8_t)(large || one_in(20) ? between(1, MOST_AUTHORISATIONS) : between(1, 5));
     setup.first = (uint16_t)ONE_OF(100, 100, 100, 0, 1, LATEST_DAY + 1 - setup.days, 30000 + below(1000));
     for (unsigned day = 0; day < setup.days; day++) setup.codes[day] = (uint8_t)below(3);
-    for (unsigned row = 0; row < setup.authorisations; row++) setup.rows[row] = right_row(&setup);
+    give_rows(&setup);
     return setup;
 }
 
@@ -67,6 +71,60 @@ void spoil_setup(ghendufika_setup *setup) {
     case 4: setup->first = (uint16_t)ONE_OF(LATEST_DAY + 2 - setup->days, LATEST_DAY + 1 - setup->days, 65535, 65534); break;
     default: spoil_row(setup, &setup->rows[below(setup->authorisations) % MOST_ROWS]); break;
     }
+}
+
+/* ---- the calendar's days, dates and setups */
+
+enum { FIRST_SHORT_DAY = 85, FIRST_LONG_DAY = 302 };
+
+/* Of any year; the day after the calendar's last where none follows. */
+static uint32_t some_clock_change(void) {
+    unsigned periods;
+    uint32_t day = below(GHENDUFIKA_LAST_CALENDAR_DAY + 1);
+    while (calendar_length(day, &periods) == DONE && periods == 48) day++;
+    return day;
+}
+
+uint32_t some_calendar_day(void) {
+    switch (below(8)) {
+    case 0: return below(MOST_DAYS + 1);
+    case 1: return FIRST_SHORT_DAY - MOST_DAYS + below(MOST_DAYS + 2);
+    case 2: return FIRST_LONG_DAY - MOST_DAYS + below(MOST_DAYS + 2);
+    case 3: return GHENDUFIKA_LAST_CALENDAR_DAY - MOST_DAYS + below(2 * MOST_DAYS);
+    case 4: return GHENDUFIKA_LAST_CALENDAR_DAY - below(3); /* a book of two or three days goes past the end */
+    case 5: return below(65536);
+    default: return some_clock_change() - below(MOST_DAYS);
+    }
+}
+
+void some_date(uint32_t *year, uint32_t *month, uint32_t *day) {
+    struct date date = {0, 0, 0};
+    date_of_day(some_calendar_day() % (GHENDUFIKA_LAST_CALENDAR_DAY + 1), &date);
+    if (one_in(8)) date.year = (unsigned)ONE_OF(1999, 2000, 2001, 2004, 2096, 2099, 2100, 0);
+    if (one_in(8)) date.month = (unsigned)ONE_OF(0, 1, 2, 2, 2, 12, 13, 255);
+    if (one_in(4)) date.day = (unsigned)ONE_OF(0, 1, 28, 29, 30, 31, 32, 255);
+    *year = widened(date.year);
+    *month = widened(date.month);
+    *day = widened(date.day);
+}
+
+/* The calendar's codes; a day that it does not have gets any. */
+static void give_codes(ghendufika_setup *setup) {
+    for (unsigned day = 0; day < setup->days; day++) {
+        unsigned code = 0;
+        bool known = calendar_code(setup->first + day, &code) == DONE;
+        setup->codes[day] = (uint8_t)(known ? code : below(3));
+    }
+}
+
+ghendufika_setup calendar_setup(void) {
+    ghendufika_setup setup = right_setup();
+    setup.first = (uint16_t)some_calendar_day();
+    if (setup.first + setup.days - 1 > LATEST_DAY) setup.first = (uint16_t)(LATEST_DAY + 1 - setup.days);
+    give_codes(&setup);
+    if (one_in(3)) setup.codes[below(setup.days)] = (uint8_t)below(3);
+    give_rows(&setup); /* again: they are the first day's */
+    return setup;
 }
 
 size_t slots_for_a_book(unsigned days) {
@@ -362,9 +420,17 @@ size_t some_messages_bytes(const struct tables *tables, uint8_t bytes[MOST_BYTES
     return length;
 }
 
-size_t some_setup_bytes(uint8_t bytes[MOST_BYTES]) {
-    ghendufika_setup setup = right_setup();
+static size_t packed_setup(ghendufika_setup setup, uint8_t *bytes) {
     if (one_in(3)) spoil_setup(&setup);
     struct setup told = told_setup(&setup);
-    return damage(bytes, pack_setup(&told, bytes));
+    return pack_setup(&told, bytes);
+}
+
+size_t some_setup_bytes(uint8_t bytes[MOST_BYTES]) { return damage(bytes, packed_setup(right_setup(), bytes)); }
+
+/* With a padding bit more often, so that 27 and 28 meet 22. */
+size_t some_calendar_setup_bytes(uint8_t bytes[MOST_BYTES]) {
+    size_t length = packed_setup(calendar_setup(), bytes);
+    if (one_in(6)) bytes[length - 1] |= 1;
+    return damage(bytes, length);
 }

@@ -219,3 +219,76 @@ void law_apply_all_is_apply_one_by_one(void) {
     must(used == run.used, "a run uses the bytes of its messages");
     check_what_is_left(&book, "a run leaves what its messages one by one leave");
 }
+
+/* ---- the calendar */
+
+static ghendufika_coded code_by_question(uint32_t day) {
+    asked.day = day;
+    ask("ghendufika_code_of_day", SAY_DAY);
+    ghendufika_coded coded = ghendufika_code_of_day(day);
+    note(&seen_code_of_day, coded.answer);
+    return coded;
+}
+
+/* The setup's days asked one by one: 27 where the calendar lacks one of them, else 28 where one has another code. */
+static uint8_t answer_by_codes(const ghendufika_setup *setup) {
+    uint8_t answer = 0;
+    for (unsigned place = 0; place < setup->days; place++) {
+        ghendufika_coded coded = code_by_question(setup->first + place);
+        if (coded.answer != 0) return coded.answer;
+        if (coded.code != setup->codes[place]) answer = GHENDUFIKA_CODE_DISAGREES;
+    }
+    return answer;
+}
+
+static ghendufika_setup_read read_for_two_slots(bool checked) {
+    ask(checked ? "ghendufika_read_setup_checked" : "ghendufika_read_setup", SAY_BYTES | SAY_LENGTHS);
+    ghendufika_setup_read read = checked ? ghendufika_read_setup_checked(asked.bytes, asked.length, asked.slots, asked.lent1, asked.lent2)
+                                         : ghendufika_read_setup(asked.bytes, asked.length, asked.slots, asked.lent1, asked.lent2);
+    note(checked ? &seen_read_setup_checked : &seen_read_setup, read.answer);
+    return read;
+}
+
+void law_checked_setup_is_held_against_the_codes(void) {
+    lend_bytes(made, some_calendar_setup_bytes(made));
+    asked.slots = 2;
+    asked.lent1 = asked.lent2 = asked.slots * (asked.length > 2 ? made[2] >> 4 : 1) * GHENDUFIKA_PLACES_A_DAY;
+    ghendufika_setup_read unchecked = read_for_two_slots(false), checked = read_for_two_slots(true);
+    if (unchecked.answer == GHENDUFIKA_PADDING_BIT) { /* what its codes are is not shown */
+        must(checked.answer == GHENDUFIKA_PADDING_BIT || checked.answer == GHENDUFIKA_NOT_IN_CALENDAR || checked.answer == GHENDUFIKA_CODE_DISAGREES,
+             "a padding bit is refused in a checked setup too, after the calendar");
+        return;
+    }
+    uint8_t expected = unchecked.answer == 0 ? answer_by_codes(&unchecked.setup) : unchecked.answer;
+    must(checked.answer == expected, "a checked setup is refused as an unchecked one, and then as the codes of its days say");
+    if (expected != 0) return;
+    must(checked.length == unchecked.length && same_setup(&checked.setup, &unchecked.setup), "a checked setup is read as an unchecked one");
+}
+
+static void check_date_has_its_day(uint32_t day) {
+    ask("ghendufika_date_of_day", SAY_DAY);
+    ghendufika_dated dated = ghendufika_date_of_day(day);
+    note(&seen_date_of_day, dated.answer);
+    asked.date.year = dated.date.year;
+    asked.date.month = dated.date.month;
+    asked.date.day = dated.date.day;
+    ask("ghendufika_day_of_date", SAY_DAY | SAY_DATE);
+    ghendufika_numbered numbered = ghendufika_day_of_date(dated.date.year, dated.date.month, dated.date.day);
+    note(&seen_day_of_date, numbered.answer);
+    must(numbered.answer == dated.answer && (dated.answer != 0 || numbered.day == day), "the date of a day has that day, and zeros are no date");
+}
+
+void law_days_asked_apart_agree(void) {
+    static const uint8_t lengths[] = {46, 48, 50};
+    ghendufika_coded coded = code_by_question(some_calendar_day() % (LATEST_DAY + 1));
+    asked.days = 1;
+    ask("ghendufika_day_length", SAY_DAY);
+    ghendufika_measured measured = ghendufika_day_length(asked.day);
+    note(&seen_day_length, measured.answer);
+    must(measured.answer == coded.answer && measured.periods == (coded.answer == 0 ? lengths[coded.code % 3] : 0), "a day's length is that of its code");
+    ask("ghendufika_propose_codes", SAY_DAY | SAY_DAYS);
+    ghendufika_proposed proposed = ghendufika_propose_codes(asked.day, asked.days);
+    note(&seen_propose_codes, proposed.answer);
+    must(proposed.answer == coded.answer && proposed.codes[0] == coded.code, "the code proposed for one day is the day's");
+    check_date_has_its_day(asked.day);
+}

@@ -187,20 +187,31 @@ void try_write_setup(void) {
 
 /* ---- opening from bytes */
 
-void try_open_packed(void) {
+/* A packed setup opened as it is, or held against the calendar. */
+struct packed_opening {
+    const char *name;
+    struct seen *seen;
+    size_t (*some_bytes)(uint8_t bytes[MOST_BYTES]);
+    setup_reader *read_by_second;
+    enum answer (*open_by_second)(struct book *book, const struct setup *setup, unsigned slots);
+    ghendufika_opened_packed (*open)(const uint8_t *bytes, size_t length, uint32_t *held, size_t slots, int32_t *side1, size_t lent1, int32_t *side2, size_t lent2);
+};
+
+static void try_packed_opening(const struct packed_opening *opening) {
     struct setup setup = {0};
     size_t used;
-    lend_bytes(made, some_setup_bytes(made));
+    lend_bytes(made, opening->some_bytes(made));
     ghendufika_setup days_alone = {.days = (uint8_t)(asked.length > 2 ? made[2] >> 4 : 1)};
     make_tables_for(&days_alone);
     asked.slots = before.slots;
     asked.lent1 = before.lent1;
     asked.lent2 = before.lent2;
-    enum answer expected = setup_expected(made, &setup, &used);
-    if (expected == DONE) expected = open_book(&second, &setup, (unsigned)before.slots);
-    ask("ghendufika_open_packed", SAY_BYTES | SAY_LENGTHS);
-    ghendufika_opened_packed opened = ghendufika_open_packed(asked.bytes, asked.length, TABLES_TO_CHANGE);
-    note(&seen_open_packed, opened.answer);
+    struct handed handed = {made, asked.length, before.slots, before.lent1, before.lent2};
+    enum answer expected = setup_expected(opening->read_by_second, &handed, &setup, &used);
+    if (expected == DONE) expected = opening->open_by_second(&second, &setup, (unsigned)before.slots);
+    ask(opening->name, SAY_BYTES | SAY_LENGTHS);
+    ghendufika_opened_packed opened = opening->open(asked.bytes, asked.length, TABLES_TO_CHANGE);
+    note(opening->seen, opened.answer);
     must(opened.answer == expected, "the answer to opening a packed setup is the second program's reading, and then its opening");
     must(opened.length == used, "the length of a setup that is opened is the second program's, and 0 with a refusal");
     ghendufika_book wanted = no_book;
@@ -209,3 +220,11 @@ void try_open_packed(void) {
     check_tables(opened.answer);
 }
 
+void try_open_packed(void) {
+    try_packed_opening(&(const struct packed_opening){"ghendufika_open_packed", &seen_open_packed, some_setup_bytes, read_setup, open_book, ghendufika_open_packed});
+}
+
+void try_open_packed_checked(void) {
+    try_packed_opening(&(const struct packed_opening){"ghendufika_open_packed_checked", &seen_open_packed_checked, some_calendar_setup_bytes, read_checked_setup,
+                                                      open_checked_book, ghendufika_open_packed_checked});
+}

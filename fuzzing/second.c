@@ -50,6 +50,17 @@ bool lengths_fit(size_t slots, size_t days, size_t lent1, size_t lent2) {
     return lent1 == slots * days * MOST_PERIODS && lent2 == slots * days * MOST_PERIODS;
 }
 
+/* "Setup order: under 5 bytes 19, wrong counts, last day above 65,534 or lent lengths 17": the second program knows nothing of lent lengths, and
+ * where they are wrong nothing but 19 for the first 5 bytes comes before them, checked or not. The days are bits 16 to 19. */
+enum answer setup_expected(setup_reader *reader, const struct handed *handed, struct setup *setup, size_t *used) {
+    enum answer answer = reader(handed->bytes, handed->length, setup, used);
+    if (handed->length >= 5 && !lengths_fit(handed->slots, handed->bytes[2] >> 4, handed->lent1, handed->lent2)) {
+        *used = 0;
+        return SETUP_WRONG;
+    }
+    return answer;
+}
+
 static void tell_tables(const struct tables *tables) {
     size_t days = tables->book.setup.days;
     for (size_t slot = 0; slot < tables->slots; slot++) {

@@ -19,8 +19,17 @@ struct notification told_notification(const ghendufika_notification *notificatio
 struct nullification told_nullification(const ghendufika_nullification *nullification);
 ghendufika_setup setup_of_second(const struct setup *setup);
 
-/* What reading a packed setup for the lengths in `asked` should answer; 0 bytes used with a refusal. */
-enum answer setup_expected(const uint8_t *bytes, struct setup *setup, size_t *used);
+/* A packed setup, and the lengths of the tables that are lent for it. */
+struct handed {
+    const uint8_t *bytes;
+    size_t length, slots, lent1, lent2;
+};
+
+/* How it reads a packed setup: read_setup, or read_checked_setup, which asks the calendar. */
+typedef enum answer setup_reader(const uint8_t *bytes, size_t length, struct setup *setup, size_t *used);
+
+/* What this reader should answer where lent lengths count too; 0 bytes used with a refusal. */
+enum answer setup_expected(setup_reader *reader, const struct handed *handed, struct setup *setup, size_t *used);
 
 bool lengths_fit(size_t slots, size_t days, size_t lent1, size_t lent2);
 

@@ -7,11 +7,12 @@
 #include <stdlib.h>
 #include <string.h>
 
-enum { SLOTS = 16 };
+/* A packed setup can say 15 days; they are refused, but tables are lent for them. */
+enum { SLOTS = 16, MOST_PLACES = SLOTS * 15 * GHENDUFIKA_PLACES_A_DAY };
 
 static ghendufika_book book;
 static uint32_t held[SLOTS];
-static int32_t side1[SLOTS * GHENDUFIKA_MOST_DAYS * GHENDUFIKA_PLACES_A_DAY], side2[SLOTS * GHENDUFIKA_MOST_DAYS * GHENDUFIKA_PLACES_A_DAY];
+static int32_t side1[MOST_PLACES], side2[MOST_PLACES];
 static size_t lent; /* places of a side */
 static bool one;    /* one by one */
 
@@ -146,6 +147,34 @@ static void print_all(void) {
     print_figures();
 }
 
+/* The answer to the setup held against the calendar: each way to read and open it gives the same. Opening empties the tables, so this comes last. */
+static void print_checked(const uint8_t *bytes, size_t length, const ghendufika_setup_read *unchecked) {
+    uint8_t answer = ghendufika_read_setup_checked(bytes, length, SLOTS, lent, lent).answer;
+    if (ghendufika_open_packed_checked(bytes, length, TABLES).answer != answer) give_up("a checked setup is read and opened by other answers");
+    if (unchecked->answer == 0 && ghendufika_open_checked(unchecked->setup, TABLES).answer != answer) give_up("a checked setup is opened packed and by struct by other answers");
+    printf("c %u\n", answer);
+}
+
+static void print_book(const uint8_t *messages, size_t length, bool all) {
+    printf("sheet %u %u %u\n", book.setup.first, book.setup.days, book.setup.accounts);
+    size_t seen = one ? apply_one_by_one(messages, length) : apply_runs(messages, length);
+    if (!ghendufika_is_sound(book, TABLES)) give_up("the book is not sound any more");
+    print_totals();
+    printf("end %zu\n", seen);
+    if (all) print_all();
+}
+
+static void print_opened(const ghendufika_setup_read *read, const uint8_t *bytes, size_t length, bool all) {
+    if (read->answer != 0) {
+        printf("setup %u\n", read->answer);
+        return;
+    }
+    ghendufika_opened opened = ghendufika_open(read->setup, TABLES);
+    if (opened.answer != 0) give_up("a setup that was read is not opened");
+    book = opened.book;
+    print_book(bytes + read->length, length - read->length, all);
+}
+
 int main(int argc, char **argv) {
     bool all = false;
     for (int k = 1; k < argc; k++) {
@@ -163,21 +192,8 @@ int main(int argc, char **argv) {
     size_t days = length > 2 ? bytes[2] >> 4 : 0; /* bits 16 to 19 of a packed setup */
     lent = SLOTS * days * GHENDUFIKA_PLACES_A_DAY;
     ghendufika_setup_read read = ghendufika_read_setup(bytes, length, SLOTS, lent, lent);
-    if (read.answer != 0) {
-        printf("setup %u\n", read.answer);
-        return 0;
-    }
-    ghendufika_opened opened = ghendufika_open(read.setup, TABLES);
-    if (opened.answer != 0) give_up("a setup that was read is not opened");
-    book = opened.book;
-
-    printf("sheet %u %u %u\n", book.setup.first, book.setup.days, book.setup.accounts);
-    const uint8_t *messages = bytes + read.length;
-    size_t seen = one ? apply_one_by_one(messages, length - read.length) : apply_runs(messages, length - read.length);
-    if (!ghendufika_is_sound(book, TABLES)) give_up("the book is not sound any more");
-    print_totals();
-    printf("end %zu\n", seen);
-    if (all) print_all();
+    print_opened(&read, bytes, length, all);
+    if (all) print_checked(bytes, length, &read);
     free(bytes);
     return 0;
 }
