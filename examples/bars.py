@@ -3,91 +3,17 @@ The report of bars.c, by ctypes, from the archive as a shared object (examples/b
 Leaves as bars.c does: with 0 where everything is shown, 1 where a message was refused or unreadable, 2 where nothing is shown.
 And with 3 where this Python cannot load the library: it has x86-64 code, and ctypes loads only code of Python's own machine.
 """
-import ctypes
 import datetime
 import itertools
-import os
-import platform
 import sys
-from ctypes import POINTER, Structure, c_double, c_int32, c_size_t, c_uint8, c_uint16, c_uint32
+from ctypes import c_double, c_uint8
 
-SLOTS = 256  # as many as a book may have
+from ghendufika import ALL_SHOWN, NOT_ALL_SHOWN, PLACES_A_DAY, SLOTS, WORDS, Trouble, days_of, leave, lend, number, read
+
 MARK = -(2**31)
-PLACES_A_DAY = 50
 ONE_SIDE, MATCHED, DIFFERENT = 1, 2, 3  # the cases of ghendufika_day_marks; 0 is blank
 NOT_IN_THE_PAIR = 15
-ALL_SHOWN, NOT_ALL_SHOWN, NOTHING_SHOWN, NOT_LOADED = range(4)
-
-WORDS = (
-    "done", "the tables handed in are not a sound book", "every gate is closed", "authorisation number unknown",
-    "key wrong, or agent is neither of its two", "authorisation not in force on the current day",
-    "originator is neither this authorisation nor an expired one of the same accounts", "last day before first day",
-    "last day before the current day", "first day after the book's last day", "a period is 0 or too high, or periods do not strictly rise",
-    "a volume out of range", "a replacement, and the type is additional", "an additional, and the type is replacement",
-    "identifier not held and every slot held", "account not in the book, not in the pair, or the two equal", "no such day number, period or side",
-    "setup counts, day code, last day or lent lengths wrong", "an authorisation row wrong", "bytes end too soon", "message kind 3",
-    "more than 50 entries", "a padding bit is 1", "a value does not fit its field, or more than 50 entries to write", "no room for the packed message",
-    "identifier not held", "an account total beyond 99,999,999,999 either way",
-)
-
-
-class Trouble(Exception):
-    """Why there is nothing to show."""
-
-
-# ---- the structs of ghendufika.h that the report needs
-
-class Authorisation(Structure):
-    _fields_ = [(name, c_uint8) for name in ("agent1", "agent2", "account1", "account2")] + [
-        (name, c_uint16) for name in ("key", "first", "last")] + [("amendment", c_uint8)]
-
-
-class Setup(Structure):
-    _fields_ = [("first", c_uint16), ("days", c_uint8), ("accounts", c_uint8), ("authorisations", c_uint8),
-                ("codes", c_uint8 * 8), ("rows", Authorisation * 64)]
-
-
-class SetupRead(Structure):
-    _fields_ = [("answer", c_uint8), ("length", c_size_t), ("setup", Setup)]
-
-
-class Book(Structure):
-    _fields_ = [("setup", Setup), ("closed", c_uint16)]
-
-
-class Opened(Structure):
-    _fields_ = [("answer", c_uint8), ("book", Book)]
-
-
-class AppliedAll(Structure):
-    _fields_ = [("answer", c_uint8), ("done", c_size_t), ("used", c_size_t), ("book", Book)]
-
-
-class DayFigures(Structure):
-    _fields_ = [("sold", c_double), ("bought", c_double), ("net", c_double)]
-
-
-class Figured(Structure):
-    _fields_ = [("answer", c_uint8), ("day", DayFigures)]
-
-
-TABLES = [POINTER(c_uint32), c_size_t, POINTER(c_int32), c_size_t, POINTER(c_int32), c_size_t]
-BYTES = [ctypes.c_char_p, c_size_t]
-
-
-def load(path):
-    """A question's numbers are handed over as 32 bits, wide enough for whichever width the library takes: main lets none through that does not fit."""
-    library = ctypes.CDLL(path)
-    for name, result, arguments in (
-        ("read_setup", SetupRead, BYTES + [c_size_t] * 3),
-        ("open", Opened, [Setup] + TABLES),
-        ("apply_all", AppliedAll, [Book] + BYTES + TABLES + [POINTER(c_uint8), c_size_t]),
-        ("figures", Figured, [Book] + TABLES + [c_uint32] * 2),
-        ("day_marks", c_uint8, [Book] + TABLES + [c_uint32] * 4 + [POINTER(c_uint8), c_size_t] + [POINTER(c_double), c_size_t] * 2),
-    ):
-        function = getattr(library, "ghendufika_" + name)
-        function.restype, function.argtypes = result, arguments
-    return library
+FUNCTIONS = "read_setup", "open", "apply_all", "figures", "day_marks"
 
 
 class Story:
@@ -95,11 +21,7 @@ class Story:
 
     def __init__(self, library, packed):
         self.library = library
-        days = packed[2] >> 4 if len(packed) > 2 else 0  # bits 16 to 19: the tables' length depends on them
-        lent = SLOTS * days * PLACES_A_DAY
-        self.held = (c_uint32 * SLOTS)()
-        self.side1, self.side2 = (c_int32 * max(lent, 1))(), (c_int32 * max(lent, 1))()
-        self.tables = self.held, SLOTS, self.side1, lent, self.side2, lent
+        self.tables = self.held, _, self.side1, lent, self.side2, _ = lend(days_of(packed))
         read = library.ghendufika_read_setup(packed, len(packed), SLOTS, lent, lent)
         self.refusal, self.answers, self.unread = read.answer, [], 0
         if self.refusal == 0:
@@ -224,21 +146,6 @@ def report(story, account, day, figures):
 
 # ---- the program
 
-def number(text, most, what):
-    """ctypes cuts a number to its field without a word, so one that does not fit is refused here."""
-    if not (text.isascii() and text.isdigit() and int(text) <= most):
-        raise Trouble(f"{text} is no {what}: a number from 0 to {most}")
-    return int(text)
-
-
-def read(path):
-    try:
-        with (sys.stdin.buffer if path == "-" else open(path, "rb")) as file:
-            return file.read()
-    except OSError as why:
-        raise Trouble(f"{path} cannot be read: {os.strerror(why.errno)}") from None
-
-
 def show(library, path, account, day):
     account, day = number(account, 255, "account"), number(day, 65535, "day")
     story = Story(library, read(path))
@@ -254,37 +161,5 @@ def show(library, path, account, day):
     return NOT_ALL_SHOWN
 
 
-def main(arguments):
-    if arguments == ["--help"]:
-        print(__doc__, end="")
-        return ALL_SHOWN
-    if len(arguments) != 4:
-        print(__doc__, end="", file=sys.stderr)
-        return NOTHING_SHOWN
-    try:
-        library = load(arguments[0])
-    except (OSError, AttributeError) as why:
-        print(f"bars.py: cannot load the library, which has x86-64 code, into a Python on {platform.machine()}: {why}", file=sys.stderr)
-        return NOT_LOADED
-    try:
-        return show(library, *arguments[1:])
-    except Trouble as why:
-        print(f"Nothing to show: {why}")
-        print(f"bars.py: nothing to show: {why}", file=sys.stderr)
-        return NOTHING_SHOWN
-
-
-def leave(arguments):
-    """What main gives, or NOTHING_SHOWN where standard output could not be written; Python tells that too late by itself."""
-    try:
-        status = main(arguments)
-        sys.stdout.flush()
-        return status
-    except OSError as why:
-        print(f"bars.py: standard output cannot be written: {why.strerror}", file=sys.stderr)
-        os.dup2(os.open(os.devnull, os.O_WRONLY), sys.stdout.fileno())  # what is left to write goes nowhere
-        return NOTHING_SHOWN
-
-
 if __name__ == "__main__":
-    sys.exit(leave(sys.argv[1:]))
+    sys.exit(leave("bars.py", __doc__, FUNCTIONS, lambda arguments: len(arguments) == 3, show, sys.argv[1:]))

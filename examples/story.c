@@ -6,11 +6,6 @@
 #include <stdlib.h>
 #include <string.h>
 
-typedef struct {
-    uint8_t *bytes;
-    size_t length;
-} input;
-
 static bool read_to_end(FILE *file, input *all) {
     size_t room = 1 << 16, got = 1;
     all->length = 0;
@@ -27,7 +22,7 @@ static bool read_to_end(FILE *file, input *all) {
     return all->bytes != NULL && !ferror(file);
 }
 
-static bool read_file(const char *path, input *all) {
+bool read_file(const char *path, input *all) {
     bool standard = path[0] == '-' && path[1] == '\0';
     FILE *file = standard ? stdin : fopen(path, "rb");
     if (file == NULL) return false;
@@ -38,11 +33,10 @@ static bool read_file(const char *path, input *all) {
     return whole;
 }
 
-/* The tables' length depends on the number of days, so that is looked up before the setup is read: bits 16 to 19. */
-static size_t places_for(const input *all) {
-    size_t days = all->length > 2 ? all->bytes[2] >> 4 : 0;
-    return SLOTS * days * GHENDUFIKA_PLACES_A_DAY;
-}
+size_t places_of_days(size_t days) { return days <= GHENDUFIKA_MOST_DAYS ? SLOTS * days * GHENDUFIKA_PLACES_A_DAY : 0; }
+
+/* Its days are bits 16 to 19. */
+size_t places_for(const input *all) { return places_of_days(all->length > 2 ? all->bytes[2] >> 4 : 0); }
 
 static void count_refused(story *told) {
     told->refused = 0;
@@ -127,7 +121,7 @@ const char *words_of(uint8_t answer) {
         "identifier not held and every slot held", "account not in the book, not in the pair, or the two equal", "no such day number, period or side",
         "setup counts, day code, last day or lent lengths wrong", "an authorisation row wrong", "bytes end too soon", "message kind 3",
         "more than 50 entries", "a padding bit is 1", "a value does not fit its field, or more than 50 entries to write", "no room for the packed message",
-        "identifier not held", "an account total beyond 99,999,999,999 either way"};
+        "identifier not held", "an account total beyond 99,999,999,999 either way", "day or date not in 2000 to 2099", "code disagrees with the calendar"};
     return answer < sizeof words / sizeof words[0] ? words[answer] : "unknown";
 }
 

@@ -26,6 +26,20 @@ typedef struct {
 /* The lent tables, as the functions of the header take them. */
 #define LENT(told) (told)->held, SLOTS, (told)->side1, (told)->lent, (told)->side2, (told)->lent
 
+typedef struct {
+    uint8_t *bytes; /* to be freed */
+    size_t length;
+} input;
+
+/* All bytes of a file, or of standard input for "-". False, with errno, where they cannot be read. */
+bool read_file(const char *path, input *all);
+
+/* How many places of each side a book of so many days takes. Of more days than a book may have there is nothing to lend; they are refused in any case. */
+size_t places_of_days(size_t days);
+
+/* The same for a packed setup, before it is read. */
+size_t places_for(const input *all);
+
 /* Reads a file, or standard input for "-". False, with the trouble, where there is no book: the file cannot be read or its setup is refused. */
 bool read_story(const char *path, story *told);
 
@@ -42,7 +56,7 @@ void tell_missing(const story *told, char line[MOST_LINE]);
  * False where no more are refused. */
 bool next_refusal(const story *told, size_t *at, char line[MOST_LINE]);
 
-/* Document 01's words for an answer number. */
+/* The documents' words for an answer number. */
 const char *words_of(uint8_t answer);
 
 /* The identifier that a slot holds. `held` has 0 for none, else one more than originator * 65536 + reference (docs/DECISIONS.md, 23). */

@@ -1,8 +1,8 @@
 """example_stories.py NAME
 
 A packed story of tests/examples on standard output, packed here by itself. Each is named after what happened to whom. All have one day 100 of 48
-periods; authorisation 0 has agents 7 and 9 for accounts 11, the first party, and 22, the second, who is our client. Volumes are kWh, plus where the
-first party sells.
+periods, but for those that are to be held against the calendar; authorisation 0 has agents 7 and 9 for accounts 11, the first party, and 22, the
+second, who is our client. Volumes are kWh, plus where the first party sells.
 """
 import sys
 
@@ -13,7 +13,16 @@ def packed(*fields):
     return bytes(int(bits[k:k + 8], 2) for k in range(0, len(bits), 8))
 
 
-SETUP = packed((16, 100), (4, 1), (7, 23), (7, 1), (2, 1), (8, 7), (8, 9), (6, 11), (6, 22), (16, 500), (16, 0), (16, 65535), (2, 0))
+def setup(first, *codes, account=11, last=65535):
+    return packed((16, first), (4, len(codes)), (7, 23), (7, 1), *((2, code) for code in codes),
+                  (8, 7), (8, 9), (6, account), (6, 22), (16, 500), (16, 0), (16, last), (2, 0))
+
+
+def with_padding_bit(bytes_of_setup):
+    return bytes_of_setup[:-1] + bytes([bytes_of_setup[-1] | 1])
+
+
+SETUP = setup(100, 1)
 GATE = packed((2, 0))
 
 
@@ -42,6 +51,27 @@ STORIES = {
     "a_day_of_refusals_and_a_cut_end": SETUP + (said(9, 1, {35: -1000}, key=501) + said(9, 1, {49: -1})) * 500 + said(9, 1, {35: -1000})[:-1],
     "nothing_said": SETUP,
 }
+
+# Setups for the calendar: days 85 and 302 are the first short and the first long one, day 36524 is the last. (Setups of 4 and of 8 days have no padding.)
+SETUPS = {
+    "the_week_of_the_first_short_day": setup(81, 1, 1, 1, 1, 0, 1, 1, 1),
+    "october_sunday_typed_as_a_plain_day": setup(301, 1, 1, 1),
+    "october_sunday_typed_as_a_short_day": setup(301, 1, 0, 1),
+    "saturday_typed_as_the_long_day": setup(301, 2, 1, 1),
+    "october_sunday_typed_as_a_plain_day_and_a_padding_bit": with_padding_bit(setup(301, 1, 1, 1)),
+    "a_padding_bit_alone": with_padding_bit(setup(301, 1, 2, 1)),
+    "the_last_day_of_2099": setup(36524, 1),
+    "a_book_that_goes_on_after_2099": setup(36523, 1, 1, 1),
+    "a_book_that_goes_on_after_2099_from_a_wrong_code_on": setup(36523, 0, 1, 1),
+    "a_book_that_goes_on_after_2099_and_a_padding_bit": with_padding_bit(setup(36523, 1, 1, 1)),
+    "a_book_of_2179": setup(65534, 1),
+    "an_authorisation_that_ends_after_2099": setup(301, 1, 2, last=50000),
+    "a_day_of_code_3": setup(301, 1, 3, 1),
+    "a_book_of_nine_days": setup(301, 1, 1, 1, 1, 1, 1, 1, 1, 1),
+    "an_account_that_trades_with_itself_in_october": setup(301, 1, 1, account=22),
+    "an_october_setup_that_is_cut": setup(301, 1, 1)[:-1],
+}
+STORIES.update(SETUPS)
 
 if __name__ == "__main__":
     if sys.argv[1:] == ["--help"]:

@@ -8,7 +8,7 @@
                                                          and day ACCOUNT_DAY.report and ACCOUNT_DAY.svg, each with NAME.status, the exit status of
                                                          its program; prints what it met, for the tally
 
-Of the story's bytes only the setup and the kinds of the messages are read, here by themselves. Only the words for answer numbers are bars.py's.
+Of the story's bytes only the setup and the kinds of the messages are read, here by themselves. Only the words for answer numbers are those of examples/.
 The sheet has to be that of a book of 256 slots, as the examples have.
 """
 import datetime
@@ -19,7 +19,7 @@ import sys
 import xml.etree.ElementTree
 
 sys.path.insert(0, os.path.join(os.path.dirname(os.path.abspath(__file__)), "..", "examples"))
-from bars import WORDS  # noqa: E402
+from ghendufika import WORDS  # noqa: E402
 
 NOTHING = -(2**31)
 CASES = {1: "one side", 2: "agreed", 3: "disagreed"}
