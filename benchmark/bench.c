@@ -10,6 +10,7 @@
 #include <time.h>
 
 enum { MOST_PLACES = GHENDUFIKA_MOST_SLOTS * GHENDUFIKA_MOST_DAYS * GHENDUFIKA_PLACES_A_DAY, MOST_MESSAGES = 10000, MOST_RESULTS = 256 };
+enum { DAYS_OF_CALENDAR = GHENDUFIKA_LAST_CALENDAR_DAY + 1 };
 
 static int rounds = 60;
 static bool ratios_only;
@@ -26,11 +27,16 @@ typedef struct {
     ghendufika_totalled (*total)(ghendufika_book, const uint32_t *, size_t, const int32_t *, size_t, const int32_t *, size_t, uint32_t, uint32_t, uint32_t);
     uint8_t (*day_totals)(ghendufika_book, const uint32_t *, size_t, const int32_t *, size_t, const int32_t *, size_t, uint32_t, uint32_t, int64_t *, size_t);
     ghendufika_figured (*figures)(ghendufika_book, const uint32_t *, size_t, const int32_t *, size_t, const int32_t *, size_t, uint32_t, uint32_t);
+    ghendufika_measured (*day_length)(uint32_t);
+    ghendufika_opened (*open)(ghendufika_setup, uint32_t *, size_t, int32_t *, size_t, int32_t *, size_t);
+    ghendufika_opened (*open_checked)(ghendufika_setup, uint32_t *, size_t, int32_t *, size_t, int32_t *, size_t);
 } calls;
 
 static const calls proved = {ghendufika_message_refusal, ghendufika_message_length, ghendufika_message_field, ghendufika_is_sound, ghendufika_apply,
-                             ghendufika_apply_all,       ghendufika_total,          ghendufika_day_totals,    ghendufika_figures};
-static const calls plain = {twin_message_refusal, twin_message_length, twin_message_field, twin_is_sound, twin_apply, twin_apply_all, twin_total, twin_day_totals, twin_figures};
+                             ghendufika_apply_all,       ghendufika_total,          ghendufika_day_totals,    ghendufika_figures,  ghendufika_day_length,
+                             ghendufika_open,            ghendufika_open_checked};
+static const calls plain = {twin_message_refusal, twin_message_length, twin_message_field, twin_is_sound,   twin_apply, twin_apply_all,
+                            twin_total,           twin_day_totals,     twin_figures,       twin_day_length, twin_open,  twin_open_checked};
 
 /* One of the two: its calls, its tables and what it was answered. */
 typedef struct {
@@ -41,6 +47,7 @@ typedef struct {
     uint8_t answers[MOST_MESSAGES];
     int64_t results[MOST_RESULTS];
     double figures[3];
+    uint8_t lengths[DAYS_OF_CALENDAR];
 } worker;
 
 static worker ours = {.with = &proved}, twin = {.with = &plain}, fresh; /* `fresh` is how both begin a round */
@@ -74,7 +81,7 @@ static void hold_against_each_other(const char *job) {
     bool same = same_book(&ours.book, &twin.book) && memcmp(ours.held, twin.held, slots * sizeof *ours.held) == 0 &&
                 memcmp(ours.side1, twin.side1, lent * sizeof *ours.side1) == 0 && memcmp(ours.side2, twin.side2, lent * sizeof *ours.side2) == 0 &&
                 memcmp(ours.answers, twin.answers, sizeof ours.answers) == 0 && memcmp(ours.results, twin.results, sizeof ours.results) == 0 &&
-                memcmp(ours.figures, twin.figures, sizeof ours.figures) == 0;
+                memcmp(ours.figures, twin.figures, sizeof ours.figures) == 0 && memcmp(ours.lengths, twin.lengths, sizeof ours.lengths) == 0;
     if (same) return;
     fprintf(stderr, "bench: %s: ", job);
     give_up("the two differ, so their times say nothing");
@@ -155,6 +162,20 @@ static void ask_figures(worker *w) {
     w->figures[2] = figured.day.net;
 }
 
+/* A refusal would leave a length of 0. */
+static void ask_day_lengths(worker *w) {
+    for (uint32_t day = 0; day < DAYS_OF_CALENDAR; day++) w->lengths[day] = w->with->day_length(day).periods;
+}
+
+/* The setup that the book has is opened again, on its tables. */
+static void take_opened(worker *w, ghendufika_opened opened) {
+    if (opened.answer != 0) give_up("the setup was refused");
+    w->book = opened.book;
+}
+
+static void open_again(worker *w) { take_opened(w, w->with->open(w->book.setup, TABLES(w))); }
+static void open_again_checked(worker *w) { take_opened(w, w->with->open_checked(w->book.setup, TABLES(w))); }
+
 /* What any look at every place of the tables costs at least: both sides read once, in order. */
 static void read_tables(worker *w) {
     uint32_t all = 0;
@@ -210,7 +231,8 @@ static double measure_plain_read(void) {
 
 /* ---- printing */
 
-static void print_times(double first, double second) {
+static void print_times(const char *name, double first, double second) {
+    printf("%-52s", name);
     if (ratios_only) printf("%12s%12s", "-", "-");
     else printf("%12.1f%12.1f", first, second);
     printf("%9.2f\n", first / second);
@@ -218,8 +240,7 @@ static void print_times(double first, double second) {
 
 static measured print_job(const char *name, void (*job)(worker *), size_t units) {
     measured m = measure(name, job, units);
-    printf("%-52s", name);
-    print_times(m.ours, m.twin);
+    print_times(name, m.ours, m.twin);
     return m;
 }
 
@@ -288,10 +309,8 @@ static void print_long_notifications(void) {
     measured changing = print_job("1000 of 48 entries on days of 46, 48 and 50, each", apply_all, run.messages);
     take_long_notifications(plain_setup_of(4, 8));
     measured unchanging = print_job("the same 1000 on days of 48 only, each", apply_all, run.messages);
-    printf("%-52s", "  ours, with a short and a long day against without");
-    print_times(changing.ours, unchanging.ours);
-    printf("%-52s", "  the twin's, with them against without");
-    print_times(changing.twin, unchanging.twin);
+    print_times("  ours, with a short and a long day against without", changing.ours, unchanging.ours);
+    print_times("  the twin's, with them against without", changing.twin, unchanging.twin);
 }
 
 static void print_runs(void) {
@@ -307,13 +326,21 @@ static void print_questions(void) {
     print_job("soundness of the full book", ask_soundness, 1);
     measured sound = measure("soundness", ask_soundness, 1);
     double read = measure_plain_read();
-    printf("%-52s", "  against a plain read of both sides");
-    print_times(sound.ours, read);
-    printf("%-52s", "  the twin's, against that plain read");
-    print_times(sound.twin, read);
+    print_times("  against a plain read of both sides", sound.ours, read);
+    print_times("  the twin's, against that plain read", sound.twin, read);
     print_job("a total of the full book", ask_total, 1);
     print_job("a day's totals of the full book", ask_day_totals, 1);
     print_job("a day's figures of the full book", ask_figures, 1);
+}
+
+/* A book of one slot, since to empty the tables of more takes so long that what the check costs is not seen. */
+static void print_calendar(void) {
+    take_book(plain_setup_of(1, 8), 1, false);
+    print_job("length of a day, each day of 2000 to 2099", ask_day_lengths, DAYS_OF_CALENDAR);
+    measured unchecked = print_job("opening 1 slot of 8 days", open_again, 1);
+    measured checked = print_job("the same, checked against the calendar", open_again_checked, 1);
+    print_times("  ours, checked against unchecked", checked.ours, unchecked.ours);
+    print_times("  the twin's, checked against unchecked", checked.twin, unchecked.twin);
 }
 
 static void print_all_growth(void) {
@@ -344,6 +371,7 @@ int main(int argc, char **argv) {
     print_long_notifications();
     print_runs();
     print_questions();
+    print_calendar();
     printf("\n%-52s%12s%12s%9s\n", "growth", "ours ns", "C ns", "ratio");
     print_all_growth();
     printf("\n");

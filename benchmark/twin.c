@@ -140,24 +140,59 @@ int64_t twin_message_field(const uint8_t *bytes, size_t length, uint32_t field) 
     return 0;
 }
 
+/* ---- the calendar */
+
+enum { LAST_DAY = GHENDUFIKA_LAST_CALENDAR_DAY, SUNDAY = 1, WEEK = 7, FOUR_YEARS = 1461, FROM_APRIL = 275, FROM_NOVEMBER = 61 };
+
+/* Days that follow in the year of a day. From 2000 to 2099 every fourth year, the first among them, has a day more. */
+static uint32_t days_left(uint32_t day) {
+    uint32_t year = 4 * day / FOUR_YEARS;
+    return (FOUR_YEARS * year + FOUR_YEARS + 3) / 4 - 1 - day;
+}
+
+/* The last Sunday of a month is the one among its last seven days. Of all days six in seven are told at once, which is quicker than to look the two days
+ * of the year up in a table, and much quicker than a search in 200 numbers. */
+static unsigned periods_of(uint32_t day) {
+    if (day % WEEK != SUNDAY) return PLAIN_DAY;
+    uint32_t left = days_left(day);
+    if (left - FROM_APRIL < WEEK) return SHORT_DAY;
+    if (left - FROM_NOVEMBER < WEEK) return LONG_DAY;
+    return PLAIN_DAY;
+}
+
+ghendufika_measured twin_day_length(uint32_t day) {
+    if (day > LAST_DAY) return (ghendufika_measured){.answer = 27};
+    return (ghendufika_measured){.answer = 0, .periods = (uint8_t)periods_of(day)};
+}
+
+/* 27 before 28; the days are in a row, so the last decides for all of them. */
+static uint8_t refusal_by_calendar(const ghendufika_setup *s) {
+    if (s->first + s->days - 1u > LAST_DAY) return 27;
+    for (unsigned d = 0; d < s->days; d++)
+        if (PERIODS[s->codes[d]] != periods_of(s->first + d)) return 28;
+    return 0;
+}
+
 /* ---- a sound book */
 
-static bool setup_is_right(const ghendufika_setup *s, size_t slots, size_t lent1, size_t lent2) {
-    if (s->days < 1 || s->days > MOST_DAYS || s->accounts < 2 || s->accounts > MOST_ACCOUNTS) return false;
-    if (s->authorisations < 1 || s->authorisations > MOST_ROWS) return false;
-    if ((unsigned)s->first + s->days > EVERGREEN) return false;
-    if (slots < 1 || slots > MOST_SLOTS) return false;
+static uint8_t refusal_of_setup(const ghendufika_setup *s, size_t slots, size_t lent1, size_t lent2) {
+    if (s->days < 1 || s->days > MOST_DAYS || s->accounts < 2 || s->accounts > MOST_ACCOUNTS) return 17;
+    if (s->authorisations < 1 || s->authorisations > MOST_ROWS) return 17;
+    if ((unsigned)s->first + s->days > EVERGREEN) return 17;
+    if (slots < 1 || slots > MOST_SLOTS) return 17;
     size_t places = slots * s->days * PLACES;
-    if (lent1 != places || lent2 != places) return false;
+    if (lent1 != places || lent2 != places) return 17;
     for (unsigned d = 0; d < s->days; d++)
-        if (s->codes[d] > 2) return false;
+        if (s->codes[d] > 2) return 17;
     for (unsigned a = 0; a < s->authorisations; a++) {
         const ghendufika_authorisation *row = &s->rows[a];
-        if (row->account1 >= s->accounts || row->account2 >= s->accounts || row->account1 == row->account2) return false;
-        if (row->first == EVERGREEN || row->last < row->first || row->amendment > 2) return false;
+        if (row->account1 >= s->accounts || row->account2 >= s->accounts || row->account1 == row->account2) return 18;
+        if (row->first == EVERGREEN || row->last < row->first || row->amendment > 2) return 18;
     }
-    return true;
+    return 0;
 }
+
+static bool setup_is_right(const ghendufika_setup *s, size_t slots, size_t lent1, size_t lent2) { return refusal_of_setup(s, slots, lent1, lent2) == 0; }
 
 static unsigned gates_of(const ghendufika_setup *s) {
     unsigned gates = 0;
@@ -223,6 +258,27 @@ static bool book_is_sound(const ghendufika_book *b, const uint32_t *held, size_t
 
 bool twin_is_sound(ghendufika_book book, const uint32_t *held, size_t slots, const int32_t *side1, size_t lent1, const int32_t *side2, size_t lent2) {
     return book_is_sound(&book, held, slots, side1, lent1, side2, lent2);
+}
+
+/* ---- opening */
+
+static ghendufika_opened opened_empty(const ghendufika_setup *setup, uint32_t *held, size_t slots, int32_t *side1, int32_t *side2) {
+    size_t places = slots * setup->days * PLACES;
+    memset(held, 0, slots * sizeof *held);
+    for (size_t k = 0; k < places; k++) side1[k] = MARK;
+    for (size_t k = 0; k < places; k++) side2[k] = MARK;
+    return (ghendufika_opened){.answer = 0, .book = {.setup = *setup}};
+}
+
+ghendufika_opened twin_open(ghendufika_setup setup, uint32_t *held, size_t slots, int32_t *side1, size_t lent1, int32_t *side2, size_t lent2) {
+    uint8_t refusal = refusal_of_setup(&setup, slots, lent1, lent2);
+    return refusal != 0 ? (ghendufika_opened){.answer = refusal} : opened_empty(&setup, held, slots, side1, side2);
+}
+
+ghendufika_opened twin_open_checked(ghendufika_setup setup, uint32_t *held, size_t slots, int32_t *side1, size_t lent1, int32_t *side2, size_t lent2) {
+    uint8_t refusal = refusal_of_setup(&setup, slots, lent1, lent2);
+    if (refusal == 0) refusal = refusal_by_calendar(&setup);
+    return refusal != 0 ? (ghendufika_opened){.answer = refusal} : opened_empty(&setup, held, slots, side1, side2);
 }
 
 /* ---- messages on a sound book */
