@@ -1,7 +1,7 @@
 -- What an accepted call has shown: the conditions of the refusals that did not come.
 use mathlib.Core.Bool.{true, false, not, _&&_}
 use mathlib.Core.List.{List}
-use mathlib.Core.Path.{_≡_, refl}
+use mathlib.Core.Path.{_≡_, refl, sym, _∙_}
 use Prim.Native.Nat.{_<_}
 use lib.Dec.{eqb}
 use lib.ListN.{length}
@@ -18,9 +18,10 @@ use Rattle.meaning.specs.Settings.{known, expired}
 use Rattle.meaning.specs.Books.{Book}
 use Rattle.meaning.specs.Soundness.{sound}
 use Rattle.meaning.specs.Refusals.{arriving}
-use Rattle.meaning.specs.Notifications.{under, originatorRight, volumeWrong, notificationRules}
+use Rattle.meaning.specs.Notifications.{under, originatorRight, notificationRules}
 use Rattle.meaning.specs.Calls.{Call, gate, message, gateRules, nullificationRules, rulesFor, accepted}
 use Rattle.meaning.proofs.Held.{Room, unheld-is}
+use Rattle.meaning.proofs.Entries.{volumes-any}
 
 module _ {K : Sort} (b : Book K) where
   -- every call tests first that the book is sound, and then that a gate is open
@@ -73,7 +74,7 @@ module _ {K : Sort} (b : Book K) where
     room-left e h = leb-false (length (b .ledger .held)) (find 0 (b .ledger .held)) (rw (unheld-is (b .ledger .held) (n .identifier) h) at e)
 
     pub notification-passes : answer (notificationRules b n) ≡ 0 → NotificationPasses
-    unfolding notificationRules volumeWrong
+    unfolding notificationRules
     notification-passes e =
         let no = answer-none (notificationRules b n) refl e in
         let h = not-false (known (b .setting) (n .authorisation)) (no 2) in
@@ -82,7 +83,7 @@ module _ {K : Sort} (b : Book K) where
           authorisation = h;
           originator = originator-known h (not-false (originatorRight (b .setting) n) (no 5));
           start = leb-false (nextDay (b .setting .time)) (n .first) (no 8);
-          volumes = no 10;
+          volumes = sym (volumes-any n) ∙ no 10;
           room = room-left (no 13);
         }
 

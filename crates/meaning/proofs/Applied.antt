@@ -6,10 +6,11 @@ use mathlib.Core.Path.{_≡_, refl, sym, ap, _∙_}
 use Prim.Native.Nat.{ℕ}
 use native.Mathlib.Omega.{arith}
 use borrow.Author.Tests.{ne-eqb}
-use Rattle.words.specs.Rules.{answer}
+use Rattle.words.specs.Rules.{answer, place, Outcome, outcome, placeless}
 use Rattle.words.specs.Runs.{run}
 use Rattle.laws.proofs.Cases.{on, by-eq}
-use Rattle.laws.proofs.Rules.{numbered, earlier-answers, later-answers}
+use Rattle.laws.proofs.Rules.{numbered, earlier-answers, later-answers, place-none, place-done, earlier-places, later-places}
+use Rattle.laws.proofs.RuleByRule.{same-outcome}
 use Rattle.meaning.specs.Ledgers.{contracts}
 use Rattle.meaning.specs.Messages as Messages
 use Rattle.meaning.specs.Books.{Book}
@@ -60,62 +61,91 @@ numbered-reading : (bytes : List ℕ) → numbered (readingRules bytes) ≡ true
 unfolding readingRules
 numbered-reading bytes = refl
 
+reading-placeless : (bytes : List ℕ) → place (readingRules bytes) ≡ 0
+unfolding readingRules
+reading-placeless bytes = place-none (λ (n : ℕ). false) (readingRules bytes) refl refl
+
+-- the answer that is given, with its place
+abbrev pub appliedOutcome : Applied → Outcome
+appliedOutcome a = record { answer = a .answer; place = a .place }
+
 module _ (b : Book contracts) (bytes : List ℕ) where
   abbrev read : Packed
   read = readMessage bytes .read
 
-  apply-unsound : sound b ≡ false → answer (applyRules b bytes) ≡ 1
-  unfolding answer applyRules
+  numbered-apply : numbered (applyRules b bytes) ≡ true
+  unfolding applyRules readingRules
+  numbered-apply = numbered-message b read
+
+  pub apply-unsound : sound b ≡ false → outcome (applyRules b bytes) ≡ placeless 1
+  unfolding answer place applyRules
   apply-unsound e = rw e
 
-  apply-sound : sound b ≡ true → answer (applyRules b bytes) ≡ answer (readingRules bytes ++ messageRules b read)
-  unfolding answer applyRules
+  apply-sound : sound b ≡ true → outcome (applyRules b bytes) ≡ outcome (readingRules bytes ++ messageRules b read)
+  unfolding answer place applyRules
   apply-sound e = rw e
 
-  apply-unread : sound b ≡ true → readMessage bytes .answer ≢ 0 → answer (applyRules b bytes) ≡ readMessage bytes .answer
+  pub apply-unread : sound b ≡ true → readMessage bytes .answer ≢ 0 → outcome (applyRules b bytes) ≡ placeless (readMessage bytes .answer)
   apply-unread s n =
-      apply-sound s ∙ earlier-answers (readingRules bytes) (messageRules b read) (λ z. n (reading-answer bytes ∙ z)) ∙ sym (reading-answer bytes)
+      let refused : answer (readingRules bytes) ≢ 0 = λ z. n (reading-answer bytes ∙ z) in
+      apply-sound s
+      ∙ same-outcome
+      (earlier-answers (readingRules bytes) (messageRules b read) refused ∙ sym (reading-answer bytes))
+      (earlier-places (readingRules bytes) (messageRules b read) refused ∙ reading-placeless bytes)
 
-  apply-read : sound b ≡ true → readMessage bytes .answer ≡ 0 → answer (applyRules b bytes) ≡ answer (messageRules b read)
-  apply-read s e = apply-sound s ∙ later-answers (readingRules bytes) (messageRules b read) (numbered-reading bytes) (sym (reading-answer bytes) ∙ e)
+  pub apply-read : sound b ≡ true → readMessage bytes .answer ≡ 0 → outcome (applyRules b bytes) ≡ outcome (messageRules b read)
+  apply-read s e =
+      let passed : answer (readingRules bytes) ≡ 0 = sym (reading-answer bytes) ∙ e in
+      apply-sound s
+      ∙ same-outcome
+      (later-answers (readingRules bytes) (messageRules b read) (numbered-reading bytes) passed)
+      (later-places (readingRules bytes) (messageRules b read) (numbered-reading bytes) passed)
 
   -- ---- what is given then
 
-  refused-by : (k : ℕ) → answer (applyRules b bytes) ≡ k → k ≢ 0 → applied b bytes ≡ notApplied b k
+  refused-by : (told : Outcome) → outcome (applyRules b bytes) ≡ told → told .answer ≢ 0 → applied b bytes ≡ notApplied b told
   unfolding applied
-  refused-by k e n = rw (e, ne-eqb k 0 n)
+  refused-by told e n =
+      rw (ne-eqb (answer (applyRules b bytes)) 0 (λ z. n (sym (ap (λ (o : Outcome). o .answer) e) ∙ z))) (ap (notApplied b) e)
 
   done-by : answer (applyRules b bytes) ≡ 0
-      → applied b bytes ≡ record { answer = 0; kind = kindGiven b read; slot = slotGiven b read; length = readMessage bytes .length; book = after b (callsOf read) }
+      → applied b bytes ≡ record { answer = 0; place = 0; kind = kindGiven b read; slot = slotGiven b read; length = readMessage bytes .length; book = after b (callsOf read) }
   unfolding applied
   done-by e = rw e
 
-  pub applied-unsound : sound b ≡ false → applied b bytes ≡ notApplied b 1
-  applied-unsound e = refused-by 1 (apply-unsound e) (λ z. omega (arith, z))
+  pub applied-unsound : sound b ≡ false → applied b bytes ≡ notApplied b (placeless 1)
+  applied-unsound e = refused-by (placeless 1) (apply-unsound e) (λ z. omega (arith, z))
 
-  pub applied-unread : sound b ≡ true → readMessage bytes .answer ≢ 0 → applied b bytes ≡ notApplied b (readMessage bytes .answer)
-  applied-unread s n = refused-by (readMessage bytes .answer) (apply-unread s n) n
+  pub applied-unread : sound b ≡ true → readMessage bytes .answer ≢ 0 → applied b bytes ≡ notApplied b (placeless (readMessage bytes .answer))
+  applied-unread s n = refused-by (placeless (readMessage bytes .answer)) (apply-unread s n) n
 
   module _ (s : sound b ≡ true) (e : readMessage bytes .answer ≡ 0) where
-    pub applied-refused : answer (messageRules b read) ≢ 0 → applied b bytes ≡ notApplied b (answer (messageRules b read))
-    applied-refused n = refused-by (answer (messageRules b read)) (apply-read s e) n
+    pub applied-refused : answer (messageRules b read) ≢ 0 → applied b bytes ≡ notApplied b (outcome (messageRules b read))
+    applied-refused n = refused-by (outcome (messageRules b read)) (apply-read s e) n
 
     pub applied-done : answer (messageRules b read) ≡ 0
-        → applied b bytes ≡ record { answer = 0; kind = kindGiven b read; slot = slotGiven b read; length = readMessage bytes .length; book = after b (callsOf read) }
-    applied-done z = done-by (apply-read s e ∙ z)
+        → applied b bytes ≡ record { answer = 0; place = 0; kind = kindGiven b read; slot = slotGiven b read; length = readMessage bytes .length; book = after b (callsOf read) }
+    applied-done z = done-by (ap (λ (o : Outcome). o .answer) (apply-read s e) ∙ z)
 
-    -- either way the answer and the book are those of the message
-    applied-answer : applied b bytes .answer ≡ answer (messageRules b read)
-    applied-answer =
+    -- either way the outcome and the book are those of the message
+    applied-outcome : appliedOutcome (applied b bytes) ≡ outcome (messageRules b read)
+    applied-outcome =
         by-eq (answer (messageRules b read)) 0
-        (λ z. ap (λ (x : Applied). x .answer) (applied-done z) ∙ sym z)
-        (λ n. ap (λ (x : Applied). x .answer) (applied-refused n))
+        (λ z. ap appliedOutcome (applied-done z) ∙ same-outcome (sym z) (sym (place-done (messageRules b read) (numbered-message b read) z)))
+        (λ n. ap appliedOutcome (applied-refused n))
 
     applied-book : applied b bytes .book ≡ after b (callsOf read)
     applied-book =
         by-eq (answer (messageRules b read)) 0
         (λ z. ap (λ (x : Applied). x .book) (applied-done z))
         (λ n. ap (λ (x : Applied). x .book) (applied-refused n) ∙ sym (message-refused b read n))
+
+  -- whatever refuses it, and where nothing does
+  pub applied-tells : appliedOutcome (applied b bytes) ≡ outcome (applyRules b bytes)
+  applied-tells =
+      by-eq (answer (applyRules b bytes)) 0
+      (λ z. ap appliedOutcome (done-by z) ∙ same-outcome (sym z) (sym (place-done (applyRules b bytes) numbered-apply z)))
+      (λ n. ap appliedOutcome (refused-by (outcome (applyRules b bytes)) refl n))
 
   -- ONE PACKED MESSAGE IS ITS CALL: the book after it is the book after the call that the bytes hold
   pub applied-is-calls : applied b bytes .book ≡ after b (callsIn 1 bytes)
@@ -132,8 +162,8 @@ module _ (b : Book contracts) (bytes : List ℕ) where
 
   -- A caller who goes on after every message by its length makes the run: on a sound book each step is what is applied, and takes that many bytes.
   pub step-is-applied : sound b ≡ true
-      → stepped b bytes ≡ record { answer = applied b bytes .answer; length = readMessage bytes .length; book = applied b bytes .book }
+      → stepped b bytes ≡ record { outcome = appliedOutcome (applied b bytes); length = readMessage bytes .length; book = applied b bytes .book }
   step-is-applied s =
       by-eq (readMessage bytes .answer) 0
-      (λ e. stepped-read bytes b e ∙ rw (applied-answer s e, applied-book s e) refl)
+      (λ e. stepped-read bytes b e ∙ rw (applied-outcome s e, applied-book s e) refl)
       (λ n. stepped-unread bytes b n ∙ rw (applied-unread s n, no-length n) refl)

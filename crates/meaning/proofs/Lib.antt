@@ -21,6 +21,7 @@ pub mod SetupRules
 pub mod Sound
 pub mod Standing
 pub mod Held
+pub mod Entries
 pub mod Accepted
 pub mod Keeps
 pub mod Moves
@@ -45,6 +46,7 @@ pub mod PackedMessageRules
 pub mod PackedCalls
 pub mod OnlyClock
 pub mod Applied
+pub mod PlacesTold
 pub mod LayoutSizes
 pub mod ReadMore
 pub mod EitherWayMessages

@@ -1,13 +1,15 @@
 -- Our table, document 01's "The book" and "Answer numbers": the bounds of 1 to 11, each from both of its sides.
 use mathlib.Core.Bool.{Bool, _&&_}
-use mathlib.Core.List.{List, [], _∷_}
+use mathlib.Core.List.{List, [], _∷_, _++_}
+use Prim.Native.Nat.{ℕ, _+_}
 use lib.IntN.{ℤ, pos, negℤ}
 use Rattle.words.specs.Tests.{_=?_}
+use Rattle.words.specs.Lists.{build}
 use Rattle.meaning.specs.Time.{currentDay}
 use Rattle.meaning.specs.Ledgers.{contracts}
 use Rattle.meaning.specs.Messages.{Entry}
 use Rattle.meaning.specs.Calls.{Call, gate}
-use Rattle.meaning.proofs.Stories.{_/₁_, entry, send, tell, cancel, answers, initialIn, refuses}
+use Rattle.meaning.proofs.Stories.{_/₁_, entry, send, tell, cancel, answers, initialIn, refuses, refusesAt}
 use Rattle.meaning.proofs.OurBook.{start, clock, seven, nine}
 
 -- "2: every gate is closed", 48 + 46 + 50 of them; "gates closed do not exceed the periods" (1)
@@ -82,9 +84,9 @@ thePeriods =
     initialIn 0 start (sent [])
     && initialIn 0 start (sent (entry 1 (pos 5) ∷ entry 2 (pos 5) ∷ entry 48 (pos 5) ∷ []))
     && refuses 10 start (sent (entry 0 (pos 5) ∷ []))
-    && refuses 10 start (sent (entry 2 (pos 5) ∷ entry 2 (pos 5) ∷ []))
-    && refuses 10 start (sent (entry 2 (pos 5) ∷ entry 1 (pos 5) ∷ []))
-    && refuses 10 start (sent (entry 1 (pos 5) ∷ entry 49 (pos 5) ∷ []))
+    && refusesAt 10 1 start (sent (entry 2 (pos 5) ∷ entry 2 (pos 5) ∷ []))
+    && refusesAt 10 1 start (sent (entry 2 (pos 5) ∷ entry 1 (pos 5) ∷ []))
+    && refusesAt 10 1 start (sent (entry 1 (pos 5) ∷ entry 49 (pos 5) ∷ []))
     && initialIn 0 start (tell 0 7 (0 /₁ 1) 101 101 46 (pos 5))
     && refuses 10 start (tell 0 7 (0 /₁ 1) 101 101 47 (pos 5))
     && initialIn 0 start (tell 0 7 (0 /₁ 1) 102 102 50 (pos 5))
@@ -98,8 +100,29 @@ theVolumes =
     let sent : ℤ → Call contracts = λ v. send 0 7 500 (0 /₁ 1) 100 100 (entry 1 (pos 5) ∷ entry 2 v ∷ []) in
     initialIn 0 start (sent (pos 99999999))
     && initialIn 0 start (sent (negℤ (pos 99999999)))
-    && refuses 11 start (sent (pos 100000000))
-    && refuses 11 start (sent (negℤ (pos 100000000)))
+    && refusesAt 11 1 start (sent (pos 100000000))
+    && refusesAt 11 1 start (sent (negℤ (pos 100000000)))
+
+-- "Refusals 10 and 11 are to carry the first offending entry's place, counted from 0 .. 10 is still decided over all entries before 11" (02, A3): at
+-- the first, in the middle, at the last and past the 50th; the later of two that do not rise; the least of several; and 10 after 11
+abbrev thePlaces : Bool
+thePlaces =
+    let sent : List (Entry contracts) → Call contracts = λ es. send 0 7 500 (0 /₁ 1) 102 102 es in
+    let good : ℕ → ℕ → List (Entry contracts) = λ from n. build n (λ (k : ℕ). entry (from + k) (pos 5)) in
+    let wide : ℤ = pos 100000000 in
+    refusesAt 10 0 start (sent (entry 0 (pos 5) ∷ good 1 49))
+    && refusesAt 10 20 start (sent (good 1 20 ++ (entry 51 (pos 5) ∷ good 22 29)))
+    && refusesAt 10 20 start (sent (good 1 20 ++ (entry 20 (pos 5) ∷ good 22 29)))
+    && refusesAt 10 21 start (sent (good 1 20 ++ (entry 30 (pos 5) ∷ good 22 29)))
+    && refusesAt 10 49 start (sent (good 1 49 ++ (entry 255 (pos 5) ∷ [])))
+    && refusesAt 10 50 start (sent (good 1 51))
+    && refusesAt 10 50 start (sent (good 1 50 ++ (entry 0 wide ∷ entry 7 wide ∷ [])))
+    && refusesAt 10 3 start (sent (good 1 3 ++ (entry 0 (pos 5) ∷ entry 0 (pos 5) ∷ good 4 60)))
+    && refusesAt 11 0 start (sent (entry 1 wide ∷ good 2 49))
+    && refusesAt 11 20 start (sent (good 1 20 ++ (entry 21 wide ∷ entry 22 wide ∷ good 23 28)))
+    && refusesAt 11 49 start (sent (good 1 49 ++ (entry 50 wide ∷ [])))
+    && refusesAt 10 5 start (sent (entry 1 wide ∷ (good 2 4 ++ (entry 5 (pos 5) ∷ []))))
+    && refuses 9 start (send 0 7 500 (0 /₁ 1) 103 103 (good 1 3 ++ (entry 0 wide ∷ [])))
 
 -- "15: account not in the book, not in the pair, or the two equal": of a nullification's two accounts
 abbrev thePairs : Bool
@@ -111,4 +134,4 @@ thePairs =
 
 abbrev pub refusals : List Bool
 refusals =
-    theLastGate ∷ theCurrentDay ∷ theSender ∷ theForce ∷ theOriginator ∷ theDays ∷ thePeriods ∷ theVolumes ∷ thePairs ∷ []
+    theLastGate ∷ theCurrentDay ∷ theSender ∷ theForce ∷ theOriginator ∷ theDays ∷ thePeriods ∷ theVolumes ∷ thePlaces ∷ thePairs ∷ []

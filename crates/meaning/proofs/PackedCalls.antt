@@ -7,7 +7,7 @@ use Prim.Native.Nat.{ℕ, zero, suc, _+_, _≤_, _<_}
 use native.Mathlib.Omega.{arith}
 use lib.ListN.{length, drop}
 use borrow.Author.Tests.{eq-eqb, ne-eqb}
-use Rattle.words.specs.Rules.{answer}
+use Rattle.words.specs.Rules.{outcome, placeless}
 use Rattle.words.specs.Runs.{run}
 use Rattle.laws.proofs.Cases.{by-eq}
 use Rattle.laws.proofs.Runs.{run-append, run-keeps}
@@ -45,11 +45,11 @@ module _ (bytes : List ℕ) where
 
   module _ (b : Book contracts) where
     pub stepped-read : readMessage bytes .answer ≡ 0
-        → stepped b bytes ≡ record { answer = answer (messageRules b (readMessage bytes .read)); length = readMessage bytes .length; book = after b (callsOf (readMessage bytes .read)) }
+        → stepped b bytes ≡ record { outcome = outcome (messageRules b (readMessage bytes .read)); length = readMessage bytes .length; book = after b (callsOf (readMessage bytes .read)) }
     unfolding stepped
     stepped-read e = rw (eq-eqb (readMessage bytes .answer) 0 e)
 
-    pub stepped-unread : readMessage bytes .answer ≢ 0 → stepped b bytes ≡ record { answer = readMessage bytes .answer; length = 0; book = b }
+    pub stepped-unread : readMessage bytes .answer ≢ 0 → stepped b bytes ≡ record { outcome = placeless (readMessage bytes .answer); length = 0; book = b }
     unfolding stepped
     stepped-unread n = rw (ne-eqb (readMessage bytes .answer) 0 n)
 
@@ -80,13 +80,13 @@ module _ (b : Book contracts) (bytes : List ℕ) where
   bytes-ended (suc room) e = rw (eq-eqb (length bytes) 0 e)
 
   pub unreadable : (room : ℕ) → length bytes ≢ 0 → stepped b bytes .length ≡ 0
-      → appliedAll (suc room) b bytes ≡ record { answers = stepped b bytes .answer ∷ []; used = 0; book = b }
+      → appliedAll (suc room) b bytes ≡ record { outcomes = stepped b bytes .outcome ∷ []; used = 0; book = b }
   unfolding appliedAll
   unreadable room n e = rw (ne-eqb (length bytes) 0 n, eq-eqb (stepped b bytes .length) 0 e)
 
   pub one-more : (room : ℕ) → length bytes ≢ 0 → stepped b bytes .length ≢ 0 → let rest = appliedAll room (stepped b bytes .book) (drop (stepped b bytes .length) bytes) in
       appliedAll (suc room) b bytes
-      ≡ record { answers = stepped b bytes .answer ∷ rest .answers; used = stepped b bytes .length + rest .used; book = rest .book }
+      ≡ record { outcomes = stepped b bytes .outcome ∷ rest .outcomes; used = stepped b bytes .length + rest .used; book = rest .book }
   unfolding appliedAll
   one-more room n m = rw (ne-eqb (length bytes) 0 n, ne-eqb (stepped b bytes .length) 0 m)
 
@@ -104,7 +104,7 @@ calls-none : (bytes : List ℕ) → callsIn 0 bytes ≡ []
 unfolding callsIn
 calls-none bytes = refl
 
--- with room for one answer, those of the first message
+-- with room for one outcome, those of the first message
 pub calls-one : (bytes : List ℕ) → readMessage bytes .answer ≡ 0 → callsIn 1 bytes ≡ callsOf (readMessage bytes .read)
 calls-one bytes e =
     let m = readMessage bytes .read in

@@ -5,9 +5,10 @@ use mathlib.Core.Path.{_≡_, refl}
 use Prim.Native.Nat.{ℕ}
 use lib.IntN.{pos, negsuc}
 use Rattle.words.specs.Tests.{_=?_}
+use Rattle.words.specs.Rules.{placeless}
 use Rattle.meaning.specs.Ascii.{ascii}
 use Rattle.meaning.specs.Decimals.{digits, decimal, signed}
-use Rattle.meaning.specs.SheetLines.{sheetLine, messageLine, totalLine, endLine, setupLine}
+use Rattle.meaning.specs.SheetLines.{sheetLine, carriesPlace, messageLine, totalLine, endLine, setupLine}
 
 abbrev pub same : List ℕ → List ℕ → Bool
 same [] [] = true
@@ -51,10 +52,17 @@ theLeastOf64Bits = refl
 -- ---- the sheet of the paper, and a refused setup
 
 pub theSheet : same
-    (sheetLine 100 1 2 ++ messageLine 1 0 ++ messageLine 2 0 ++ messageLine 3 4 ++ messageLine 4 0 ++ messageLine 5 0 ++ totalLine 0 100 1 (pos 5000) ++ totalLine 1 100 1 (negsuc 4999) ++ endLine 5)
+    (sheetLine 100 1 2 ++ messageLine 1 (placeless 0) ++ messageLine 2 (placeless 0) ++ messageLine 3 (placeless 4) ++ messageLine 4 (placeless 0) ++ messageLine 5 (placeless 0) ++ totalLine 0 100 1 (pos 5000) ++ totalLine 1 100 1 (negsuc 4999) ++ endLine 5)
     (ascii "sheet 100 1 2\nm 1 0\nm 2 0\nm 3 4\nm 4 0\nm 5 0\nt 0 100 1 5000\nt 1 100 1 -5000\nend 5\n") ≡ true
-unfolding sheetLine messageLine totalLine endLine signed decimal digits
+unfolding sheetLine carriesPlace messageLine totalLine endLine signed decimal digits
 theSheet = refl
+
+-- "The `m` line gains a third number only there" (02, A3)
+pub theThirdNumber : same
+    (messageLine 3 (record { answer = 10; place = 7 }) ++ messageLine 4 (record { answer = 11; place = 0 }) ++ messageLine 5 (record { answer = 10; place = 50 }) ++ messageLine 6 (placeless 12))
+    (ascii "m 3 10 7\nm 4 11 0\nm 5 10 50\nm 6 12\n") ≡ true
+unfolding carriesPlace messageLine decimal digits
+theThirdNumber = refl
 
 pub theRefusedSetup : same (setupLine 17) (ascii "setup 17\n") ≡ true
 unfolding setupLine decimal digits

@@ -48,25 +48,29 @@ answers b c number = refusal b c =? number
 abbrev pub accepts : Book contracts → Call contracts → Bool
 accepts b c = answers b c 0
 
--- a notification's answer with its kind (1 initial, 2 replacement, 3 additional) and its slot
-abbrev pub notifies : Book contracts → Call contracts → ℕ → ℕ → ℕ → Bool
-notifies b gate number kind slot = false
-notifies b (message (notification n)) number kind slot =
-    notified b n .answer =? number && notified b n .kind =? kind && notified b n .slot =? slot
-notifies b (message (nullification x)) number kind slot = false
+-- a notification's answer with its place, its kind (1 initial, 2 replacement, 3 additional) and its slot
+abbrev pub notifies : Book contracts → Call contracts → ℕ → ℕ → ℕ → ℕ → Bool
+notifies b gate number place kind slot = false
+notifies b (message (notification n)) number place kind slot =
+    notified b n .answer =? number && notified b n .place =? place && notified b n .kind =? kind && notified b n .slot =? slot
+notifies b (message (nullification x)) number place kind slot = false
 
 abbrev pub initialIn : ℕ → Book contracts → Call contracts → Bool
-initialIn slot b c = notifies b c 0 1 slot
+initialIn slot b c = notifies b c 0 0 1 slot
 
 abbrev pub replacementIn : ℕ → Book contracts → Call contracts → Bool
-replacementIn slot b c = notifies b c 0 2 slot
+replacementIn slot b c = notifies b c 0 0 2 slot
 
 abbrev pub additionalIn : ℕ → Book contracts → Call contracts → Bool
-additionalIn slot b c = notifies b c 0 3 slot
+additionalIn slot b c = notifies b c 0 0 3 slot
 
 -- "A refusal .. its other results are zero"
 abbrev pub refuses : ℕ → Book contracts → Call contracts → Bool
-refuses number b c = notifies b c number 0 0
+refuses number b c = notifies b c number 0 0 0
+
+-- but for the place of the entry at fault, with 10 and 11 (02, A3)
+abbrev pub refusesAt : ℕ → ℕ → Book contracts → Call contracts → Bool
+refusesAt number place b c = notifies b c number place 0 0
 
 -- the total of an account in a period of a day, with the answer 0: a refusal would give the total 0 too
 abbrev pub has : Book contracts → ℕ → ℕ → ℕ → ℤ → Bool

@@ -1,12 +1,11 @@
 -- Document 01, "What a notification does" and "Answer numbers" (1 to 14): what can be wrong with a notification, its kind, and its answer.
-use mathlib.Core.Bool.{Bool, true, not, _&&_, _||_}
+use mathlib.Core.Bool.{Bool, not, _&&_, _||_}
 use mathlib.Core.List.{List, [], _∷_, _++_}
-use Prim.Native.Nat.{ℕ, suc}
+use Prim.Native.Nat.{ℕ, zero, suc}
 use lib.ListN.{length, getD}
 use Rattle.words.specs.Tests.{if_then_else_, _<?_, _≤?_, _=?_, between}
-use Rattle.words.specs.Below.{someBelow}
-use Rattle.words.specs.Lists.{any}
-use Rattle.words.specs.Rules.{Rule, _when_else_, done, answer}
+use Rattle.words.specs.Below.{someBelow, firstBelow}
+use Rattle.words.specs.Rules.{Rule, _when_else_, _when_by_else_, done, answer, place}
 use Rattle.meaning.specs.Time.{periodsAt, days, dayNumber, periodsOn, isOpenAt, nextDay, currentDay}
 use Rattle.meaning.specs.Authorisations.{Authorisation, rowAt, sameAccounts}
 use Rattle.meaning.specs.Ledgers.{Sort, Ledger, stands, at, originatorOf, isHeld, slotOf, slotFor, everySlotHeld, holds, one, two}
@@ -40,18 +39,29 @@ module _ {K : Sort} where
   unfoldable pub highestPeriod : Setting → Notification K → ℕ
   highestPeriod s n = if n .first =? n .last then periodsOn (s .time) (n .first) else 48
 
-  -- each period is above the one before it, and none is above the highest
-  unfoldable pub rising : ℕ → ℕ → List (Entry K) → Bool
-  rising before highest [] = true
-  rising before highest (e ∷ es) = between (suc before) highest (e .period) && rising (e .period) highest es
+  -- the entry at a place, counted from 0; the period before a place, 0 before the first
+  unfoldable pub entryAt : Notification K → ℕ → Entry K
+  entryAt n k = getD (n .entries) k (record { period = 0; volume = K .omitted })
 
-  -- 10: "a period is 0 or too high, or periods do not strictly rise; an entry past the 50th counts as too high"
-  unfoldable pub periodWrong : Setting → Notification K → Bool
-  periodWrong s n = 50 <? length (n .entries) || not (rising 0 (highestPeriod s n) (n .entries))
+  unfoldable pub periodBefore : Notification K → ℕ → ℕ
+  periodBefore n zero = 0
+  periodBefore n (suc k) = entryAt n k .period
+
+  -- 10: "a period is 0 or too high, or periods do not strictly rise; an entry past the 50th counts as too high". Of two that do not rise the later
+  -- entry offends, and 0 rises above nothing.
+  unfoldable pub periodOffends : Setting → Notification K → ℕ → Bool
+  periodOffends s n k = 50 ≤? k || highestPeriod s n <? entryAt n k .period || entryAt n k .period ≤? periodBefore n k
 
   -- 11: "a volume out of range"
-  unfoldable pub volumeWrong : Notification K → Bool
-  volumeWrong n = any (λ (e : Entry K). not (K .inRange (e .volume))) (n .entries)
+  unfoldable pub volumeOffends : Notification K → ℕ → Bool
+  volumeOffends n k = not (K .inRange (entryAt n k .volume))
+
+  -- some entry offends; and the place of the least that does, "the first offending entry's place, counted from 0" (02, A3)
+  unfoldable pub someEntry : Notification K → (ℕ → Bool) → Bool
+  someEntry n offends = someBelow (length (n .entries)) offends
+
+  unfoldable pub firstEntry : Notification K → (ℕ → Bool) → ℕ
+  firstEntry n offends = firstBelow (length (n .entries)) offends
 
   -- ---- its kind
 
@@ -110,11 +120,11 @@ module _ {K : Sort} where
       9 when nextDay (s .time) ≤? n .first else
       done
 
-  -- 10 and 11: its entries
+  -- 10 and 11: its entries. "Refusals 10 and 11 are to carry the first offending entry's place .. 10 is still decided over all entries before 11" (02, A3)
   abbrev pub entryRules : Setting → Notification K → List Rule
   entryRules s n =
-      10 when periodWrong s n else
-      11 when volumeWrong n else
+      10 when someEntry n (periodOffends s n) by firstEntry n (periodOffends s n) else
+      11 when someEntry n (volumeOffends n) by firstEntry n (volumeOffends n) else
       done
 
   -- 12 and 13: its kind, against the type of its authorisation
@@ -136,9 +146,10 @@ module _ {K : Sort} where
       arriving b (
       authorisationRules (b .setting) n ++ dayRules (b .setting) n ++ entryRules (b .setting) n ++ kindRules b n ++ slotRules (b .ledger) n)
 
--- "The answer gives kind and slot": 1 initial, 2 replacement, 3 additional; both zero with a refusal.
+-- "The answer gives kind and slot": 1 initial, 2 replacement, 3 additional; both zero with a refusal. The place is the refusal's.
 pub record Notified : Type 0 where
   pub answer : ℕ
+  pub place : ℕ
   pub kind : ℕ
   pub slot : ℕ
 
@@ -152,5 +163,5 @@ module _ {K : Sort} where
   notified b n =
       let number = answer (notificationRules b n) in
       if number =? 0
-      then record { answer = 0; kind = kindNumber (kindOf b n); slot = slotFor (b .ledger .held) (n .identifier) }
-      else record { answer = number; kind = 0; slot = 0 }
+      then record { answer = 0; place = 0; kind = kindNumber (kindOf b n); slot = slotFor (b .ledger .held) (n .identifier) }
+      else record { answer = number; place = place (notificationRules b n); kind = 0; slot = 0 }

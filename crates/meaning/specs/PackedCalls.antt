@@ -1,9 +1,9 @@
 -- A packed message done to a book, and a run of packed messages done one after the other ("Bytes after a message belong to the next").
-use mathlib.Core.List.{List, [], _∷_, _++_}
+use mathlib.Core.List.{List, [], _∷_, _++_, map}
 use Prim.Native.Nat.{ℕ, zero, suc, _+_}
 use lib.ListN.{length, drop}
 use Rattle.words.specs.Tests.{if_then_else_, _<?_, _=?_}
-use Rattle.words.specs.Rules.{Rule, _when_else_, done, answer}
+use Rattle.words.specs.Rules.{Rule, _when_else_, done, answer, Outcome, outcome, placeless}
 use Rattle.meaning.specs.Ledgers.{contracts}
 use Rattle.meaning.specs.Messages.{notification, nullification}
 use Rattle.meaning.specs.Books.{Book}
@@ -53,28 +53,28 @@ applyRules b bytes = asked b (readingRules bytes ++ messageRules b (readMessage 
 
 pub record Applied : Type 0 where
   pub answer : ℕ
+  pub place : ℕ
   pub kind : ℕ
   pub slot : ℕ
   pub length : ℕ
   pub book : Book contracts
 
--- "A refusal leaves all tables .. and the clock unchanged; its other results are zero"
-abbrev pub notApplied : Book contracts → ℕ → Applied
-notApplied b number = record { answer = number; kind = 0; slot = 0; length = 0; book = b }
+-- "A refusal leaves all tables .. and the clock unchanged; its other results are zero", but for the place that it carries
+abbrev pub notApplied : Book contracts → Outcome → Applied
+notApplied b told = record { answer = told .answer; place = told .place; kind = 0; slot = 0; length = 0; book = b }
 
 unfoldable pub applied : Book contracts → List ℕ → Applied
 applied b bytes =
-    let number = answer (applyRules b bytes) in
     let r = readMessage bytes in
-    if number =? 0
-    then record { answer = 0; kind = kindGiven b (r .read); slot = slotGiven b (r .read); length = r .length; book = after b (callsOf (r .read)) }
-    else notApplied b number
+    if answer (applyRules b bytes) =? 0
+    then record { answer = 0; place = 0; kind = kindGiven b (r .read); slot = slotGiven b (r .read); length = r .length; book = after b (callsOf (r .read)) }
+    else notApplied b (outcome (applyRules b bytes))
 
 -- ---- a run of packed messages
 
 -- A step of the run: a message that is read takes its bytes, whatever the book answers. What is unreadable takes none, and leaves the book.
 pub record Step : Type 0 where
-  pub answer : ℕ
+  pub outcome : Outcome
   pub length : ℕ
   pub book : Book contracts
 
@@ -82,18 +82,25 @@ unfoldable pub stepped : Book contracts → List ℕ → Step
 stepped b bytes =
     let r = readMessage bytes in
     if r .answer =? 0
-    then record { answer = answer (messageRules b (r .read)); length = r .length; book = after b (callsOf (r .read)) }
-    else record { answer = r .answer; length = 0; book = b }
+    then record { outcome = outcome (messageRules b (r .read)); length = r .length; book = after b (callsOf (r .read)) }
+    else record { outcome = placeless (r .answer); length = 0; book = b }
 
 pub record Run : Type 0 where
-  pub answers : List ℕ
+  pub outcomes : List Outcome
   pub used : ℕ
   pub book : Book contracts
 
 abbrev pub nothingRun : Book contracts → Run
-nothingRun b = record { answers = []; used = 0; book = b }
+nothingRun b = record { outcomes = []; used = 0; book = b }
 
--- each by itself on the book that the one before left, until the bytes end, one is unreadable, or there is room for no more answers
+-- the answers alone, and the places beside them (02, A3)
+abbrev pub answersIn : List Outcome → List ℕ
+answersIn outcomes = map (λ (o : Outcome). o .answer) outcomes
+
+abbrev pub placesIn : List Outcome → List ℕ
+placesIn outcomes = map (λ (o : Outcome). o .place) outcomes
+
+-- each by itself on the book that the one before left, until the bytes end, one is unreadable, or there is room for no more outcomes
 unfoldable pub appliedAll : ℕ → Book contracts → List ℕ → Run
 appliedAll zero b bytes = nothingRun b
 appliedAll (suc room) b bytes =
@@ -102,8 +109,8 @@ appliedAll (suc room) b bytes =
     if length bytes =? 0
     then nothingRun b
     else if one .length =? 0
-    then record { answers = one .answer ∷ []; used = 0; book = b }
-    else record { answers = one .answer ∷ rest .answers; used = one .length + rest .used; book = rest .book }
+    then record { outcomes = one .outcome ∷ []; used = 0; book = b }
+    else record { outcomes = one .outcome ∷ rest .outcomes; used = one .length + rest .used; book = rest .book }
 
 -- the calls of such a run, whatever the book
 unfoldable pub callsIn : ℕ → List ℕ → List (Call contracts)

@@ -43,14 +43,14 @@ totalLines b =
 
 -- ---- the sheet
 
--- A message takes a byte or more, so this is room for the answers to all of them.
+-- A message takes a byte or more, so this is room for the outcomes of all of them.
 unfoldable pub runOver : Book contracts → List ℕ → Run
 runOver b bytes = appliedAll (length bytes) b bytes
 
--- "`m`: message number from 1, answer", the totals, and "`end`: messages seen"; a number is held in 64 bits, so it wraps there
+-- "`m`: message number from 1, answer" (and place, 02, A3), the totals, and "`end`: messages seen"; a number is held in 64 bits, so it wraps there
 unfoldable pub linesAfterFirst : Run → List (List ℕ)
 linesAfterFirst run =
-    messageLines 1 (run .answers) ++ totalLines (run .book) ++ (endLine (length (run .answers) % 2 ^ 64) ∷ [])
+    messageLines 1 (run .outcomes) ++ totalLines (run .book) ++ (endLine (length (run .outcomes) % 2 ^ 64) ∷ [])
 
 -- "Line 1: first day, days, accounts"; "A refused setup prints only `setup` and the number."
 unfoldable pub sheetLines : List ℕ → List (List ℕ)

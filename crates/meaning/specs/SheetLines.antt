@@ -1,7 +1,10 @@
 -- Document 01, "The sheet program": its lines, as ASCII bytes.
+use mathlib.Core.Bool.{Bool, _||_}
 use mathlib.Core.List.{List, [], _∷_, _++_}
 use Prim.Native.Nat.{ℕ, _+_, _%_, _^_}
 use lib.IntN.{ℤ}
+use Rattle.words.specs.Tests.{if_then_else_, _=?_}
+use Rattle.words.specs.Rules.{Outcome}
 use Rattle.meaning.specs.Ascii.{ascii}
 use Rattle.meaning.specs.Decimals.{decimal, signed}
 
@@ -27,14 +30,19 @@ line word numbers = beginning word numbers ++ newline
 unfoldable pub sheetLine : ℕ → ℕ → ℕ → List ℕ
 sheetLine first days accounts = line (ascii "sheet") (first ∷ days ∷ accounts ∷ [])
 
--- "m NUMBER ANSWER"
-unfoldable pub messageLine : ℕ → ℕ → List ℕ
-messageLine number answer = line (ascii "m") (number ∷ answer ∷ [])
+-- "The `m` line gains a third number only there" (02, A3): with 10 and 11
+unfoldable pub carriesPlace : ℕ → Bool
+carriesPlace answer = answer =? 10 || answer =? 11
+
+-- "m NUMBER ANSWER", and "m NUMBER ANSWER PLACE"
+unfoldable pub messageLine : ℕ → Outcome → List ℕ
+messageLine number told =
+    line (ascii "m") (if carriesPlace (told .answer) then number ∷ told .answer ∷ told .place ∷ [] else number ∷ told .answer ∷ [])
 
 -- the lines of messages one after the other, the first of which has this number; a number is held in 64 bits, so it wraps there
-unfoldable pub messageLines : ℕ → List ℕ → List (List ℕ)
+unfoldable pub messageLines : ℕ → List Outcome → List (List ℕ)
 messageLines first [] = []
-messageLines first (answer ∷ answers) = messageLine first answer ∷ messageLines ((first + 1) % 2 ^ 64) answers
+messageLines first (told ∷ later) = messageLine first told ∷ messageLines ((first + 1) % 2 ^ 64) later
 
 -- "t ACCOUNT DAY PERIOD KWH", whose last number may be below zero
 unfoldable pub totalLine : ℕ → ℕ → ℕ → ℤ → List ℕ
