@@ -3,7 +3,7 @@
 use mathlib.Core.Bool.{true}
 use mathlib.Core.List.{List, [], _∷_, _++_}
 use mathlib.Core.Path.{_≡_, refl, sym, ap, subst, _∙_}
-use Prim.Native.Nat.{ℕ}
+use Prim.Native.Nat.{ℕ, min}
 use lib.IntN.{ℤ}
 use lib.ListN.{length}
 use Rattle.words.specs.Rules.{answer}
@@ -74,10 +74,10 @@ pub data Made : State → List (Call contracts) → State → Type 0 where
       → Applies (s .book) (s .held) (s .side1) (s .side2) bytes r h l1 l2
       → Made (record { book = r .book; held = h; side1 = l1; side2 = l2 }) calls t
       → Made s (callsIn 1 bytes ++ calls) t
-  apply-all-made : {s t : State} {calls : List (Call contracts)} (bytes answers : List ℕ) (r : AppliedAll) (h : List ℕ) (l1 l2 : List ℤ) (left : List ℕ)
-      → AppliesAll (s .book) (s .held) (s .side1) (s .side2) bytes answers r h l1 l2 left
+  apply-all-made : {s t : State} {calls : List (Call contracts)} (bytes answers places : List ℕ) (r : AppliedAll) (h : List ℕ) (l1 l2 : List ℤ) (left beside : List ℕ)
+      → AppliesAll (s .book) (s .held) (s .side1) (s .side2) bytes answers places r h l1 l2 left beside
       → Made (record { book = r .book; held = h; side1 = l1; side2 = l2 }) calls t
-      → Made s (callsIn (length answers) bytes ++ calls) t
+      → Made s (callsIn (min (length answers) (length places)) bytes ++ calls) t
 
 -- ---- each call leaves the book that meaning has after it
 
@@ -106,13 +106,15 @@ module _ (s : State) where
       (λ e. ap (λ (x : Run). x .book) (run-sound (whole s) room bytes e .1) ∙ run-is-calls room (whole s) bytes)
       (λ e. ap (λ (x : Run). x .book) (run-unsound (whole s) room bytes e .1) ∙ sym (unsound-after (whole s) e (callsIn room bytes)))
 
-  run-leaves : (bytes answers : List ℕ) (r : AppliedAll) (h : List ℕ) (l1 l2 : List ℤ) (left : List ℕ) → AppliesAll (s .book) (s .held) (s .side1) (s .side2) bytes answers r h l1 l2 left
-      → bookOf (r .book) h l1 l2 ≡ after (whole s) (callsIn (length answers) bytes)
-  run-leaves bytes answers r h l1 l2 left p =
-      let w = runOn (length answers) (whole s) bytes .book in
-      let e = run-calls (length answers) bytes in
+  run-leaves : (bytes answers places : List ℕ) (r : AppliedAll) (h : List ℕ) (l1 l2 : List ℤ) (left beside : List ℕ)
+      → AppliesAll (s .book) (s .held) (s .side1) (s .side2) bytes answers places r h l1 l2 left beside
+      → bookOf (r .book) h l1 l2 ≡ after (whole s) (callsIn (min (length answers) (length places)) bytes)
+  run-leaves bytes answers places r h l1 l2 left beside p =
+      let room = min (length answers) (length places) in
+      let w = runOn room (whole s) bytes .book in
+      let e = run-calls room bytes in
       rw (ap (λ (x : AppliedAll). x .book) (p .0), p .1, p .2, p .3)
-      (holds-book (s .book) w (rw e (run-moves-clock (length answers) (whole s) bytes)) ∙ e)
+      (holds-book (s .book) w (rw e (run-moves-clock room (whole s) bytes)) ∙ e)
 
 -- ---- so do calls one after another
 
@@ -128,10 +130,10 @@ follows {s} (nullify-made {calls} x r l1 l2 p m) =
     (message-leaves s (nullification (nullificationOf x)) (s .held) l1 l2 (sym (nullification-held (whole s) (nullificationOf x))) (p .1) (p .2))
 follows {s} (apply-made {calls} bytes r h l1 l2 p m) =
     follows m ∙ ap (λ (w : Meaning.Book contracts). after w calls) (applied-leaves s bytes r h l1 l2 p) ∙ sym (after-append (whole s) (callsIn 1 bytes) calls)
-follows {s} (apply-all-made {calls} bytes answers r h l1 l2 left p m) =
+follows {s} (apply-all-made {calls} bytes answers places r h l1 l2 left beside p m) =
     follows m
-    ∙ ap (λ (w : Meaning.Book contracts). after w calls) (run-leaves s bytes answers r h l1 l2 left p)
-    ∙ sym (after-append (whole s) (callsIn (length answers) bytes) calls)
+    ∙ ap (λ (w : Meaning.Book contracts). after w calls) (run-leaves s bytes answers places r h l1 l2 left beside p)
+    ∙ sym (after-append (whole s) (callsIn (min (length answers) (length places)) bytes) calls)
 
 -- ---- from an opened book
 

@@ -7,6 +7,7 @@ pub mod MessageLaws
 pub mod PackedLaws
 pub mod RunLaws
 pub mod Bridge
+pub mod PlacesGiven
 pub mod PackedBridge
 pub mod UniqueGate
 pub mod UniqueNullify

@@ -1,14 +1,15 @@
 -- A message by its kind: each kind's own promise is what `do_message` promises of it.
-use mathlib.Core.Bool.{true}
+use mathlib.Core.Bool.{true, false}
 use mathlib.Core.List.{List}
-use mathlib.Core.Path.{_≡_, refl, sym, ap, _∙_}
+use mathlib.Core.Path.{_≡_, refl, sym, ap, ap₂, _∙_}
 use Prim.Native.Nat.{ℕ, _-_, _≤_}
 use native.Mathlib.Omega.{arith}
 use lib.Dec.{eqb}
 use lib.IntN.{ℤ}
 use borrow.Author.Tests.{lt-ltb, le-ltb, ne-eqb}
-use Rattle.words.specs.Rules.{answer}
+use Rattle.words.specs.Rules.{answer, place}
 use Rattle.laws.proofs.Cases.{on, by-eq}
+use Rattle.laws.proofs.Rules.{place-none}
 use Rattle.words.specs.Runs.{run}
 use Rattle.meaning.specs.Settings.{Setting}
 use Rattle.meaning.specs.Ledgers.{contracts}
@@ -17,7 +18,7 @@ use Rattle.meaning.specs.Books as Meaning
 use Rattle.meaning.specs.Soundness.{sound}
 use Rattle.meaning.specs.Notifications.{notified}
 use Rattle.meaning.specs.Calls as Calls
-use Rattle.meaning.specs.Calls.{gateRules, rulesFor, accepted, act}
+use Rattle.meaning.specs.Calls.{gateRules, nullificationRules, rulesFor, accepted, act}
 use Rattle.meaning.specs.History.{after}
 use Rattle.meaning.specs.PackedMessages.{Packed, gate, message, otherKind}
 use Rattle.meaning.specs.PackedCalls.{callsOf, messageRules, kindGiven, slotGiven}
@@ -32,7 +33,7 @@ use Rattle.calls.specs.declared.Notified.{Notified}
 use Rattle.calls.specs.declared.sound_book.Done.{Done}
 use Rattle.calls.proofs.CallLaws.{after-one, message-setting, nullification-held}
 use Rattle.calls.proofs.GateLaws.{gate-sound, gated-steps}
-use Rattle.calls.proofs.NotifyLaws.{notified-number, notification-answer}
+use Rattle.calls.proofs.NotifyLaws.{notified-number, notified-place, notification-answer, notification-place}
 use Rattle.calls.proofs.Promises.{Notifies, Nullifies}
 
 -- ---- the message that a struct holds, by its kind
@@ -61,11 +62,11 @@ Does b before m r h l1 l2 =
     let left = afterMessage before m .ledger in
     (r ≡ messageDone b before m) × (h ≡ left .held) × (l1 ≡ left .side1) × (l2 ≡ left .side2)
 
--- by the answer with kind and slot, the gates closed and the tables
+-- by the answer with kind, slot and place, the gates closed and the tables
 done-by : (b : Book) (before w : Meaning.Book contracts) (m : Packed) (told : Notified) (h : List ℕ) (l1 l2 : List ℤ)
-    → afterMessage before m ≡ w → told ≡ record { answer = answer (messageRules before m); kind = kindGiven before m; slot = slotGiven before m }
+    → afterMessage before m ≡ w → told ≡ record { answer = answer (messageRules before m); kind = kindGiven before m; slot = slotGiven before m; place = place (messageRules before m) }
     → w .setting .time .closed ≡ b .closed → h ≡ w .ledger .held → l1 ≡ w .ledger .side1 → l2 ≡ w .ledger .side2
-    → Does b before m (record { answer = told .answer; kind = told .kind; slot = told .slot; book = b }) h l1 l2
+    → Does b before m (record { answer = told .answer; place = told .place; kind = told .kind; slot = told .slot; book = b }) h l1 l2
 done-by b before w m told h l1 l2 e p q r s t = rw (e, q) (rw p refl, r, s, t)
 
 module _ (b : Book) (held : List ℕ) (side1 side2 : List ℤ) where
@@ -87,36 +88,52 @@ module _ (b : Book) (held : List ℕ) (side1 side2 : List ℤ) where
   gate-clock : gated b (answer (gateRules whole)) .book .closed ≡ afterCall whole Calls.gate .setting .time .closed
   gate-clock = ap (λ (w : Meaning.Book contracts). w .setting .time .closed) (gated-steps b held side1 side2)
 
+  -- no rule but a notification's carries a place
+  gate-placeless : place (gateRules whole) ≡ 0
+  unfolding gateRules
+  gate-placeless = place-none (λ (k : ℕ). false) (gateRules whole) refl refl
+
+  nullification-placeless : (x : Meant.Nullification) → place (rulesFor whole (Calls.message (Meant.nullification x))) ≡ 0
+  unfolding rulesFor nullificationRules
+  nullification-placeless x = place-none (λ (k : ℕ). false) (nullificationRules whole x) refl refl
+
+  other-placeless : (k : ℕ) → place (messageRules whole (otherKind k)) ≡ 0
+  unfolding messageRules
+  other-placeless k = place-none (λ (j : ℕ). false) (messageRules whole (otherKind k)) refl refl
+
   pub does-gate : sound whole ≡ true → (g : Gated) → g ≡ gated b (nextAnswer b)
-      → Does b whole gate (record { answer = g .answer; kind = 0; slot = 0; book = g .book }) held side1 side2
+      → Does b whole gate (record { answer = g .answer; place = 0; kind = 0; slot = 0; book = g .book }) held side1 side2
   unfolding messageRules kindGiven slotGiven callsOf rulesFor
   does-gate s g p =
       let number = answer (gateRules whole) in
       let closed : g ≡ record { answer = number; book = record { setup = b .setup; closed = afterCall whole Calls.gate .setting .time .closed } } =
       p ∙ ap (gated b) (gate-number s) ∙ gated-book number ∙ ap (λ (k : ℕ). record { answer = number; book = record { setup = b .setup; closed = k } }) gate-clock in
-      rw (after-one whole Calls.gate, gate-tables)
-      (ap (λ (x : Gated). record { answer = x .answer; kind = 0; slot = 0; book = x .book }) closed, refl, refl, refl)
+      rw (after-one whole Calls.gate, gate-tables, gate-placeless)
+      (ap (λ (x : Gated). record { answer = x .answer; place = 0; kind = 0; slot = 0; book = x .book }) closed, refl, refl, refl)
 
   module _ (m : Message) where
     pub does-notification : (r : Notified) (h : List ℕ) (l1 l2 : List ℤ) → Notifies b held side1 side2 (m .notification) r h l1 l2
-        → Does b whole (message (Meant.notification (notificationOf (m .notification)))) (record { answer = r .answer; kind = r .kind; slot = r .slot; book = b }) h l1 l2
+        → Does b whole (message (Meant.notification (notificationOf (m .notification)))) (record { answer = r .answer; place = r .place; kind = r .kind; slot = r .slot; book = b }) h l1 l2
     unfolding messageRules kindGiven slotGiven callsOf
     does-notification r h l1 l2 p =
         let n = notificationOf (m .notification) in
         done-by b whole (afterCall whole (Calls.message (Meant.notification n))) (message (Meant.notification n)) r h l1 l2
         (after-one whole (Calls.message (Meant.notification n)))
-        (p .0 ∙ ap (λ (k : ℕ). record { answer = k; kind = notified whole n .kind; slot = notified whole n .slot }) (notified-number whole n ∙ notification-answer whole n))
+        (p .0
+        ∙ ap₂ (λ (number at : ℕ). record { answer = number; kind = notified whole n .kind; slot = notified whole n .slot; place = at })
+        (notified-number whole n ∙ notification-answer whole n)
+        (notified-place whole n ∙ notification-place whole n))
         (ap (λ (s : Setting). s .time .closed) (message-setting whole (Meant.notification n)))
         (p .1) (p .2) (p .3)
 
     pub does-nullification : (r : ℕ) (l1 l2 : List ℤ) → Nullifies b held side1 side2 (m .nullification) r l1 l2
-        → Does b whole (message (Meant.nullification (nullificationOf (m .nullification)))) (record { answer = r; kind = 0; slot = 0; book = b }) held l1 l2
+        → Does b whole (message (Meant.nullification (nullificationOf (m .nullification)))) (record { answer = r; place = 0; kind = 0; slot = 0; book = b }) held l1 l2
     unfolding messageRules kindGiven slotGiven callsOf
     does-nullification r l1 l2 p =
         let x = nullificationOf (m .nullification) in
-        done-by b whole (afterCall whole (Calls.message (Meant.nullification x))) (message (Meant.nullification x)) (record { answer = r; kind = 0; slot = 0 }) held l1 l2
+        done-by b whole (afterCall whole (Calls.message (Meant.nullification x))) (message (Meant.nullification x)) (record { answer = r; kind = 0; slot = 0; place = 0 }) held l1 l2
         (after-one whole (Calls.message (Meant.nullification x)))
-        (ap (λ (k : ℕ). record { answer = k; kind = 0; slot = 0 }) (p .0))
+        (ap₂ (λ (number at : ℕ). record { answer = number; kind = 0; slot = 0; place = at }) (p .0) (sym (nullification-placeless x)))
         (ap (λ (s : Setting). s .time .closed) (message-setting whole (Meant.nullification x)))
         (sym (nullification-held whole x)) (p .1) (p .2)
 
@@ -129,6 +146,11 @@ module _ (b : Book) (held : List ℕ) (side1 side2 : List ℤ) where
       (λ n. rw (le-ltb kind 3 l, ne-eqb kind 3 n, s, ne-eqb (kind - 3) 0 (omega arith), lt-ltb 0 (kind - 3) (omega arith)))
 
   pub does-nothing : (kind number : ℕ) → 3 ≤ kind → sound whole ≡ true → number ≡ kindRefusal kind
-      → Does b whole (otherKind (kind - 3)) (record { answer = number; kind = 0; slot = 0; book = b }) held side1 side2
+      → Does b whole (otherKind (kind - 3)) (record { answer = number; place = 0; kind = 0; slot = 0; book = b }) held side1 side2
   unfolding kindGiven slotGiven callsOf after run
-  does-nothing kind number l s e = (ap (λ (k : ℕ). record { answer = k; kind = 0; slot = 0; book = b }) (e ∙ other-answer kind l s), refl, refl, refl)
+  does-nothing kind number l s e = (
+    ap₂ (λ (k at : ℕ). record { answer = k; place = at; kind = 0; slot = 0; book = b }) (e ∙ other-answer kind l s) (sym (other-placeless (kind - 3))),
+    refl,
+    refl,
+    refl,
+  )

@@ -10,9 +10,9 @@ use lib.IntN.{ℤ}
 use lib.ListN.{length, set}
 use borrow.Author.Tests.{ltb-true, lt-leb, eqb-true, ne-eqb}
 use Rattle.words.specs.Lists.{find, mapAt}
-use Rattle.words.specs.Rules.{Rule, answer}
+use Rattle.words.specs.Rules.{Rule, answer, place, Outcome, outcome, placeless}
 use Rattle.laws.proofs.Cases.{on}
-use Rattle.laws.proofs.Rules.{numbered, earlier-answers, later-answers}
+use Rattle.laws.proofs.Rules.{numbered, earlier-answers, later-answers, place-none, place-done, earlier-places, later-places}
 use Rattle.meaning.specs.Time.{Time}
 use Rattle.meaning.specs.Ledgers.{contracts, isHeld, everySlotHeld, slotFor, Side, one, two, side, places}
 use Rattle.meaning.specs.Messages as Messages
@@ -30,7 +30,7 @@ use Rattle.notification_kinds.specs.Kinds.{Fits, kindAnswer}
 use Rattle.notification_kinds.proofs.KindLaws.{kind-fitting}
 use Rattle.book.specs.Structs.{bookOf}
 use Rattle.book.specs.declared.Book.{Book}
-use Rattle.laws.proofs.RuleByRule.{passes}
+use Rattle.laws.proofs.RuleByRule.{first-passed, same-outcome}
 use Rattle.book.proofs.SoundParts.{codes-count}
 use Rattle.calls.proofs.CallLaws.{call-accepted}
 use Rattle.message_effects.proofs.EffectLaws.{volumesGiven, accepted-side, unwritten-side}
@@ -70,34 +70,43 @@ module _ (b : Meaning.Book contracts) (n : Messages.Notification contracts) wher
   unfolding answer lateRules
   last-three = rw (kind-two, kind-three, slot-full (b .ledger .held) (n .identifier))
 
-  pub unsound-answer : sound b ≡ false → answer (notificationRules b n) ≡ 1
-  unfolding answer notificationRules
-  unsound-answer e = rw e
+  pub unsound-outcome : sound b ≡ false → outcome (notificationRules b n) ≡ placeless 1
+  unfolding answer place notificationRules
+  unsound-outcome e = rw e
 
-  split : sound b ≡ true → answer (notificationRules b n) ≡ answer (checkRules (b .setting) n ++ lastThree)
+  split : sound b ≡ true → outcome (notificationRules b n) ≡ outcome (checkRules (b .setting) n ++ lastThree)
   unfolding notificationRules checkRules
-  split e = passes (notificationRules b n) 0 refl (ap not e)
+  split e = first-passed _ _ (ap not e)
 
-  pub early-answer : sound b ≡ true → answer (checkRules (b .setting) n) ≢ 0 → answer (notificationRules b n) ≡ answer (checkRules (b .setting) n)
-  early-answer e q = split e ∙ earlier-answers (checkRules (b .setting) n) lastThree q
+  pub early-outcome : sound b ≡ true → answer (checkRules (b .setting) n) ≢ 0 → outcome (notificationRules b n) ≡ outcome (checkRules (b .setting) n)
+  early-outcome e q =
+      split e ∙ same-outcome (earlier-answers (checkRules (b .setting) n) lastThree q) (earlier-places (checkRules (b .setting) n) lastThree q)
 
   numbered-checks : numbered (checkRules (b .setting) n) ≡ true
   unfolding checkRules
   numbered-checks = refl
 
-  pub late-answer : sound b ≡ true → answer (checkRules (b .setting) n) ≡ 0 → answer (notificationRules b n) ≡ lateAnswer
-  late-answer e q = split e ∙ later-answers (checkRules (b .setting) n) lastThree numbered-checks q ∙ last-three
+  -- the rules that read a table carry no place
+  pub late-outcome : sound b ≡ true → answer (checkRules (b .setting) n) ≡ 0 → outcome (notificationRules b n) ≡ placeless lateAnswer
+  late-outcome e q =
+      split e
+      ∙ same-outcome
+      (later-answers (checkRules (b .setting) n) lastThree numbered-checks q ∙ last-three)
+      (later-places (checkRules (b .setting) n) lastThree numbered-checks q ∙ place-none (λ (k : ℕ). false) lastThree refl refl)
 
   pub late-same : (k t s : ℕ) → k ≡ kindNumber (kindOf b n) → t ≡ under (b .setting) n .type → s ≡ slotFor (b .ledger .held) (n .identifier)
       → answer (lateRules k t s (length (b .ledger .held))) ≡ lateAnswer
   late-same k t s p q r = rw (p, q, r)
 
-  pub notified-refused : (k : ℕ) → answer (notificationRules b n) ≡ k → k ≢ 0 → notified b n ≡ record { answer = k; kind = 0; slot = 0 }
+  pub notified-refused : (told : Outcome) → outcome (notificationRules b n) ≡ told → told .answer ≢ 0
+      → notified b n ≡ record { answer = told .answer; place = told .place; kind = 0; slot = 0 }
   unfolding notified
-  notified-refused k e ne = rw (e, ne-eqb k 0 ne)
+  notified-refused told e ne =
+      rw (ne-eqb (answer (notificationRules b n)) 0 (λ z. ne (sym (ap (λ (o : Outcome). o .answer) e) ∙ z)))
+      (ap (λ (o : Outcome). record { answer = o .answer; place = o .place; kind = 0; slot = 0 }) e)
 
   pub notified-done : answer (notificationRules b n) ≡ 0
-      → notified b n ≡ record { answer = 0; kind = kindNumber (kindOf b n); slot = slotFor (b .ledger .held) (n .identifier) }
+      → notified b n ≡ record { answer = 0; place = 0; kind = kindNumber (kindOf b n); slot = slotFor (b .ledger .held) (n .identifier) }
   unfolding notified
   notified-done e = rw e
 
@@ -105,12 +114,27 @@ module _ (b : Meaning.Book contracts) (n : Messages.Notification contracts) wher
   unfolding notified
   notified-number = on (eqb (answer (notificationRules b n)) 0) (λ e. rw e (sym (eqb-true (answer (notificationRules b n)) 0 e))) (λ e. rw e)
 
+  numbered-rules : numbered (notificationRules b n) ≡ true
+  unfolding notificationRules
+  numbered-rules = refl
+
+  pub notified-place : notified b n .place ≡ place (notificationRules b n)
+  unfolding notified
+  notified-place =
+      on (eqb (answer (notificationRules b n)) 0)
+      (λ e. rw e (sym (place-done (notificationRules b n) numbered-rules (eqb-true (answer (notificationRules b n)) 0 e))))
+      (λ e. rw e)
+
   abbrev pub notificationCall : Call contracts
   notificationCall = message (notification n)
 
   pub notification-answer : answer (notificationRules b n) ≡ refusal b notificationCall
   unfolding rulesFor
   notification-answer = refl
+
+  pub notification-place : place (notificationRules b n) ≡ place (rulesFor b notificationCall)
+  unfolding rulesFor
+  notification-place = refl
 
   -- ---- the tables that it leaves
 

@@ -6,7 +6,7 @@ use mathlib.Core.Path.{_≡_, refl, sym, ap, _∙_}
 use Prim.Native.Nat.{ℕ}
 use native.Mathlib.Omega.{arith}
 use lib.IntN.{ℤ}
-use Rattle.words.specs.Rules.{answer}
+use Rattle.words.specs.Rules.{answer, Outcome, placeless}
 use Rattle.meaning.specs.Ledgers.{contracts}
 use Rattle.meaning.specs.Messages as Meant
 use Rattle.meaning.specs.Books as Meaning
@@ -28,7 +28,7 @@ use Rattle.calls.specs.Answers.{notifiedOf}
 use Rattle.calls.specs.declared.Applied.{Applied}
 use Rattle.calls.specs.declared.sound_book.Done.{Done}
 use Rattle.calls.proofs.CallLaws.{unsound-stays}
-use Rattle.calls.proofs.NotifyLaws.{unsound-answer, notified-refused}
+use Rattle.calls.proofs.NotifyLaws.{unsound-outcome, notified-refused}
 use Rattle.calls.proofs.MessageLaws.{Does}
 use Rattle.calls.proofs.Promises.{Notifies, Nullifies, Applies, Steps}
 
@@ -52,11 +52,11 @@ module _ (b : Book) (held : List ℕ) (side1 side2 : List ℤ) where
   abbrev whole : Meaning.Book contracts
   whole = bookOf b held side1 side2
 
-  pub unsound-notifies : (n : Notification) → sound whole ≡ false → Notifies b held side1 side2 n (record { answer = 1; kind = 0; slot = 0 }) held side1 side2
+  pub unsound-notifies : (n : Notification) → sound whole ≡ false → Notifies b held side1 side2 n (record { answer = 1; kind = 0; slot = 0; place = 0 }) held side1 side2
   unsound-notifies n e =
       let m = notificationOf n in
       let stays = sym (unsound-stays whole (message (Meant.notification m)) e) in (
-        ap notifiedOf (sym (notified-refused whole m 1 (unsound-answer whole m e) (λ z. omega (arith, z)))),
+        ap notifiedOf (sym (notified-refused whole m (placeless 1) (unsound-outcome whole m e) (λ z. omega (arith, z)))),
         ap (λ (w : Meaning.Book contracts). w .ledger .held) stays,
         ap (λ (w : Meaning.Book contracts). w .ledger .side1) stays,
         ap (λ (w : Meaning.Book contracts). w .ledger .side2) stays,
@@ -77,36 +77,39 @@ module _ (b : Book) (held : List ℕ) (side1 side2 : List ℤ) where
 
     -- ---- a packed message: no sound book, unreadable, refused by the book, or done
 
-    abbrev refusedBy : ℕ → Applied
-    refusedBy number = record { answer = number; kind = 0; slot = 0; length = 0; book = b }
+    abbrev refusedBy : Outcome → Applied
+    refusedBy told = record { answer = told .answer; kind = 0; slot = 0; place = told .place; length = 0; book = b }
 
-    pub unsound-applies : sound whole ≡ false → Applies b held side1 side2 bytes (refusedBy 1) held side1 side2
+    pub unsound-applies : sound whole ≡ false → Applies b held side1 side2 bytes (refusedBy (placeless 1)) held side1 side2
     unsound-applies e = rw (applied-unsound whole bytes e) (refl, refl, refl, refl)
 
     module _ (s : sound whole ≡ true) where
-      pub unread-applies : readMessage bytes .answer ≢ 0 → Applies b held side1 side2 bytes (refusedBy (readMessage bytes .answer)) held side1 side2
+      pub unread-applies : readMessage bytes .answer ≢ 0 → Applies b held side1 side2 bytes (refusedBy (placeless (readMessage bytes .answer))) held side1 side2
       unread-applies n = rw (applied-unread whole bytes s n) (refl, refl, refl, refl)
 
       module _ (e : readMessage bytes .answer ≡ 0) (d : Done) (h : List ℕ) (l1 l2 : List ℤ) (does : Does b whole read d h l1 l2) where
         number : d .answer ≡ answer (messageRules whole read)
         number = ap (λ (x : Done). x .answer) (does .0)
 
-        pub refused-applies : d .answer ≢ 0 → Applies b held side1 side2 bytes (refusedBy (d .answer)) h l1 l2
+        abbrev told : Outcome
+        told = record { answer = d .answer; place = d .place }
+
+        pub refused-applies : d .answer ≢ 0 → Applies b held side1 side2 bytes (refusedBy told) h l1 l2
         refused-applies n =
             let no : answer (messageRules whole read) ≢ 0 = λ z. n (number ∙ z) in
             let stays = message-refused whole read no in
             rw (applied-refused whole bytes s e no) (
-              ap refusedBy number,
+              ap (λ (x : Done). refusedBy (record { answer = x .answer; place = x .place })) (does .0),
               does .1 ∙ ap (λ (w : Meaning.Book contracts). w .ledger .held) stays,
               does .2 ∙ ap (λ (w : Meaning.Book contracts). w .ledger .side1) stays,
               does .3 ∙ ap (λ (w : Meaning.Book contracts). w .ledger .side2) stays,
             )
 
         pub done-applies : d .answer ≡ 0
-            → Applies b held side1 side2 bytes (record { answer = 0; kind = d .kind; slot = d .slot; length = readMessage bytes .length; book = d .book }) h l1 l2
+            → Applies b held side1 side2 bytes (record { answer = 0; kind = d .kind; slot = d .slot; place = 0; length = readMessage bytes .length; book = d .book }) h l1 l2
         done-applies z =
             rw (applied-done whole bytes s e (sym number ∙ z)) (
-              ap (λ (x : Done). record { answer = 0; kind = x .kind; slot = x .slot; length = readMessage bytes .length; book = x .book }) (does .0),
+              ap (λ (x : Done). record { answer = 0; kind = x .kind; slot = x .slot; place = 0; length = readMessage bytes .length; book = x .book }) (does .0),
               does .1,
               does .2,
               does .3,
@@ -115,11 +118,11 @@ module _ (b : Book) (held : List ℕ) (side1 side2 : List ℤ) where
     -- ---- a step of a run: unreadable, or read
 
     pub unread-steps : readMessage bytes .answer ≢ 0
-        → Steps b held side1 side2 bytes (record { answer = readMessage bytes .answer; length = 0; book = b }) held side1 side2
+        → Steps b held side1 side2 bytes (record { answer = readMessage bytes .answer; place = 0; length = 0; book = b }) held side1 side2
     unread-steps n = rw (stepped-unread bytes whole n) (refl, refl, refl, refl)
 
     pub read-steps : readMessage bytes .answer ≡ 0 → (d : Done) (h : List ℕ) (l1 l2 : List ℤ) → Does b whole read d h l1 l2
-        → Steps b held side1 side2 bytes (record { answer = d .answer; length = readMessage bytes .length; book = d .book }) h l1 l2
+        → Steps b held side1 side2 bytes (record { answer = d .answer; place = d .place; length = readMessage bytes .length; book = d .book }) h l1 l2
     read-steps e d h l1 l2 does =
         rw (stepped-read bytes whole e)
-        (ap (λ (x : Done). record { answer = x .answer; length = readMessage bytes .length; book = x .book }) (does .0), does .1, does .2, does .3)
+        (ap (λ (x : Done). record { answer = x .answer; place = x .place; length = readMessage bytes .length; book = x .book }) (does .0), does .1, does .2, does .3)

@@ -1,14 +1,14 @@
 -- What each call on a book ensures of its result and of what it leaves, as a type: for uniqueness, and for runs of calls.
 use mathlib.Core.List.{List}
 use mathlib.Core.Path.{_≡_}
-use Prim.Native.Nat.{ℕ}
+use Prim.Native.Nat.{ℕ, min}
 use lib.IntN.{ℤ}
 use lib.ListN.{length}
 use lib.Seq.{sets}
 use Rattle.meaning.specs.Messages.{notification, nullification}
 use Rattle.meaning.specs.Notifications.{notified}
 use Rattle.meaning.specs.Calls.{message, refusal}
-use Rattle.meaning.specs.PackedCalls.{applied, stepped, runAnswer, runOn}
+use Rattle.meaning.specs.PackedCalls.{applied, stepped, answersIn, placesIn, runAnswer, runOn}
 use Rattle.messages.specs.declared.Notification.{Notification}
 use Rattle.messages.specs.declared.Nullification.{Nullification}
 use Rattle.messages.specs.Structs.{notificationOf, nullificationOf}
@@ -44,8 +44,8 @@ module _ (b : Book) (held : List ℕ) (side1 side2 : List ℤ) where
       let whole = stepped (bookOf b held side1 side2) bytes in
       (r ≡ steppedOf b whole) × (h ≡ whole .book .ledger .held) × (l1 ≡ whole .book .ledger .side1) × (l2 ≡ whole .book .ledger .side2)
 
-  abbrev pub AppliesAll : List ℕ → List ℕ → AppliedAll → List ℕ → List ℤ → List ℤ → List ℕ → Type 0
-  AppliesAll bytes answers r h l1 l2 left =
+  abbrev pub AppliesAll : List ℕ → List ℕ → List ℕ → AppliedAll → List ℕ → List ℤ → List ℤ → List ℕ → List ℕ → Type 0
+  AppliesAll bytes answers places r h l1 l2 left beside =
       let before = bookOf b held side1 side2 in
-      let whole = runOn (length answers) before bytes in
-      (r ≡ ranOf b (runAnswer before) whole) × (h ≡ whole .book .ledger .held) × (l1 ≡ whole .book .ledger .side1) × (l2 ≡ whole .book .ledger .side2) × (left ≡ sets answers 0 (whole .answers))
+      let whole = runOn (min (length answers) (length places)) before bytes in
+      (r ≡ ranOf b (runAnswer before) whole) × (h ≡ whole .book .ledger .held) × (l1 ≡ whole .book .ledger .side1) × (l2 ≡ whole .book .ledger .side2) × (left ≡ sets answers 0 (answersIn (whole .outcomes))) × (beside ≡ sets places 0 (placesIn (whole .outcomes)))

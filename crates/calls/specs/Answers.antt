@@ -3,7 +3,7 @@ use Prim.Native.Nat.{ℕ, _+_}
 use lib.ListN.{length}
 use Rattle.words.specs.Tests.{if_then_else_, _=?_}
 use Rattle.words.specs.Runs.{step}
-use Rattle.words.specs.Rules.{answer}
+use Rattle.words.specs.Rules.{answer, place}
 use Rattle.meaning.specs.Time.{everyGateClosed}
 use Rattle.meaning.specs.Ledgers.{contracts}
 use Rattle.meaning.specs.Books as Meaning
@@ -49,21 +49,27 @@ gated b answer = record { answer = answer; book = if answer =? 0 then oneClosed 
 -- ---- a notification
 
 abbrev pub notifiedOf : Notifications.Notified → Notified
-notifiedOf r = record { answer = r .answer; kind = r .kind; slot = r .slot }
+notifiedOf r = record { answer = r .answer; kind = r .kind; slot = r .slot; place = r .place }
 
 -- ---- packed messages
 
 abbrev pub messageDone : Book → Meaning.Book contracts → Packed → Done
 messageDone b before m =
-    record { answer = answer (messageRules before m); kind = kindGiven before m; slot = slotGiven before m; book = bookAt b (afterMessage before m) }
+    record {
+      answer = answer (messageRules before m);
+      place = place (messageRules before m);
+      kind = kindGiven before m;
+      slot = slotGiven before m;
+      book = bookAt b (afterMessage before m);
+    }
 
 abbrev pub appliedOf : Book → PackedCalls.Applied → Applied
-appliedOf b a = record { answer = a .answer; kind = a .kind; slot = a .slot; length = a .length; book = bookAt b (a .book) }
+appliedOf b a = record { answer = a .answer; kind = a .kind; slot = a .slot; place = a .place; length = a .length; book = bookAt b (a .book) }
 
 -- a step of a run
 abbrev pub steppedOf : Book → Step → Stepped
-steppedOf b s = record { answer = s .answer; length = s .length; book = bookAt b (s .book) }
+steppedOf b s = record { answer = s .outcome .answer; place = s .outcome .place; length = s .length; book = bookAt b (s .book) }
 
 -- a run with its answer
 abbrev pub ranOf : Book → ℕ → Run → AppliedAll
-ranOf b answer run = record { answer = answer; done = length (run .answers); used = run .used; book = bookAt b (run .book) }
+ranOf b answer run = record { answer = answer; done = length (run .outcomes); used = run .used; book = bookAt b (run .book) }

@@ -12,26 +12,29 @@ pub struct Gated {
     pub book: book::Book,
 }
 
-// The kind is 1 initial, 2 replacement, 3 additional. With a refusal kind and slot are 0.
+// The kind is 1 initial, 2 replacement, 3 additional. With a refusal kind and slot are 0. The place is that of the first entry at fault, counted from
+// 0, with 10 and 11, and 0 with every other answer (02, A3).
 #[repr(C)]
 pub struct Notified {
     pub answer: u8,
     pub kind: u8,
     pub slot: u16,
+    pub place: u8,
 }
 
 // Kind and slot are those of an accepted notification, 0 of any other message; the length is that of the message. With a refusal the three are 0,
-// and the book is as it came.
+// and the book is as it came; the place is a notification's.
 #[repr(C)]
 pub struct Applied {
     pub answer: u8,
     pub kind: u8,
     pub slot: u16,
+    pub place: u8,
     pub length: usize,
     pub book: book::Book,
 }
 
-// How many answers were given, how many bytes used, and the book after. With a refusal the counts are 0 and the book is as it came.
+// How many answers were given, each with its place, how many bytes used, and the book after. With a refusal the counts are 0 and the book is as it came.
 #[repr(C)]
 pub struct AppliedAll {
     pub answer: u8,

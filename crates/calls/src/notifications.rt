@@ -13,7 +13,7 @@ ghost use Rattle.messages.specs.Structs.{notificationOf};
 ghost use Rattle.book.specs.Structs.{bookOf};
 ghost use Rattle.calls.specs.Answers.{afterCall, notifiedOf};
 
-// The answer with kind and slot, before anything is written.
+// The answer with kind, slot and place, before anything is written.
 pub fn notification_answer(
     b: Book,
     n: messages::Notification,
@@ -24,7 +24,7 @@ pub fn notification_answer(
     ensures { λ r. ⌜ r ≡ notifiedOf (notified (bookOf b (now (held .entry)) (now (side1 .entry)) (now (side2 .entry))) (notificationOf n)) ⌝ }
 {
     if !soundness::is_sound(b, held, side1, side2) {
-        return sound_book::refused(numbers::NOT_SOUND);
+        return sound_book::refused(numbers::NOT_SOUND, 0);
     }
     let row = state::row_of(b, n.authorisation as u32);
     sound_book::judge_notification(b, n, row, held, side1, side2)
@@ -44,7 +44,7 @@ pub fn notify(
       ⌜ (r ≡ notifiedOf (notified before (notificationOf n))) × (now (held .exit) ≡ afterCall before call .ledger .held) × (now (side1 .exit) ≡ afterCall before call .ledger .side1) × (now (side2 .exit) ≡ afterCall before call .ledger .side2) ⌝ }
 {
     if !soundness::is_sound(b, held, side1, side2) {
-        return sound_book::refused(numbers::NOT_SOUND);
+        return sound_book::refused(numbers::NOT_SOUND, 0);
     }
     sound_book::do_notification(b, n, held, side1, side2)
 }

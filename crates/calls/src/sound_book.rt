@@ -18,25 +18,27 @@ ghost use Rattle.setups.specs.Structs.{rowOf};
 ghost use Rattle.book.specs.Structs.{rowsIn, bookOf};
 ghost use Rattle.calls.specs.Answers.{afterCall, afterMessage, notifiedOf, messageDone};
 
-// What a message did. With a refusal kind and slot are 0, and the book is as it came.
+// What a message did. With a refusal kind and slot are 0, and the book is as it came; the place is the refusal's.
 pub(crate) struct Done {
     pub answer: u8,
+    pub place: u8,
     pub kind: u8,
     pub slot: u16,
     pub book: Book,
 }
 
-pub(crate) fn refused(answer: u8) -> Notified
-    ensures { λ r. ⌜ r ≡ record { answer = answer; kind = 0; slot = 0 } ⌝ }
+pub(crate) fn refused(answer: u8, place: u8) -> Notified
+    ensures { λ r. ⌜ r ≡ record { answer = answer; kind = 0; slot = 0; place = place } ⌝ }
 {
     Notified {
         answer: answer,
         kind: 0,
         slot: 0,
+        place: place,
     }
 }
 
-// Its answer with kind and slot, before anything is written. The row of its authorisation is handed over.
+// Its answer with kind, slot and place, before anything is written. The row of its authorisation is handed over.
 pub(crate) fn judge_notification(
     b: Book,
     n: messages::Notification,
@@ -48,20 +50,21 @@ pub(crate) fn judge_notification(
     requires { ⌜ (sound (bookOf b (now held) (now side1) (now side2)) ≡ true) × (rowOf row ≡ rowAt (rowsIn (b .setup)) (n .authorisation)) ⌝ }
     ensures { λ r. ⌜ r ≡ notifiedOf (notified (bookOf b (now (held .entry)) (now (side1 .entry)) (now (side2 .entry))) (notificationOf n)) ⌝ }
 {
-    let early = message_checks::notifications::checks_refusal(b, n);
-    if early != 0 {
-        return refused(early);
+    let early = message_checks::notifications::checks_outcome(b, n);
+    if early.answer != 0 {
+        return refused(early.answer, early.place);
     }
     let kind = notification_kinds::kind_of(b, held, side1, side2, n);
     let slot = ledger::slots::slot_for(held, n.originator, n.reference);
     let late = message_checks::notifications::late_refusal(kind, row.amendment, slot, held.len());
     if late != 0 {
-        return refused(late);
+        return refused(late, 0);
     }
     Notified {
         answer: 0,
         kind: kind,
         slot: slot as u16,
+        place: 0,
     }
 }
 
@@ -143,6 +146,7 @@ pub(crate) fn do_message(
             let after = gate.book;
             Done {
                 answer: gate.answer,
+                place: 0,
                 kind: 0,
                 slot: 0,
                 book: after,
@@ -152,6 +156,7 @@ pub(crate) fn do_message(
             let told = do_notification(b, m.notification, held, side1, side2);
             Done {
                 answer: told.answer,
+                place: told.place,
                 kind: told.kind,
                 slot: told.slot,
                 book: b,
@@ -161,6 +166,7 @@ pub(crate) fn do_message(
             let answer = do_nullification(b, m.nullification, held, side1, side2);
             Done {
                 answer: answer,
+                place: 0,
                 kind: 0,
                 slot: 0,
                 book: b,
@@ -168,6 +174,7 @@ pub(crate) fn do_message(
         }
         _ => Done {
             answer: layouts::kind_refusal(kind),
+            place: 0,
             kind: 0,
             slot: 0,
             book: b,

@@ -5,17 +5,17 @@ use mathlib.Core.Logic.{_≢_}
 use mathlib.Core.Path.{_≡_, refl, sym, ap, ap₂, _∙_}
 use Prim.Native.Nat.{ℕ, zero, suc, _≤_, _<_, min}
 use native.Mathlib.Omega.{arith}
+use lib.IntN.{pos}
 use lib.ListN.{length, getD, take, drop, length-map, List·getD-eq-default}
-use borrow.Author.Tests.{ne-eqb}
+use borrow.Author.Tests.{ne-eqb, lt-leb}
 use denote.Laws.{Is}
 use denote.Struct.Declared.{row}
 use denote.Struct.Laws.{owed, vals}
 use Rattle.words.specs.Tests.{_<?_, _=?_, between, within}
 use Rattle.words.specs.Below.{someBelow}
-use Rattle.words.specs.Lists.{build}
-use Rattle.laws.proofs.Below.{some-none, some-front, some-miss, some-all, some-ext}
-use Rattle.laws.proofs.Builds.{length-build, getD-build-past, any-build}
-use Rattle.laws.proofs.Cases.{by-lt, not-not, same-false}
+use Rattle.laws.proofs.Below.{some-miss, some-first, first-is}
+use Rattle.laws.proofs.Builds.{length-build, getD-build, getD-build-past}
+use Rattle.laws.proofs.Cases.{by-lt}
 use Rattle.meaning.specs.Time.{periodsAt, everyGateClosed, currentDay}
 use Rattle.meaning.specs.Authorisations.{Authorisation, rowAt, sameAccounts}
 use Rattle.meaning.specs.Settings.{Setting, inForce}
@@ -23,9 +23,10 @@ use Rattle.meaning.specs.Ledgers.{Sort, contracts}
 use Rattle.meaning.specs.Messages as Messages
 use Rattle.meaning.specs.Messages.{writes}
 use Rattle.meaning.specs.Books as Books
-use Rattle.meaning.specs.Notifications.{keyOrAgentWrong, originatorRight, highestPeriod, rising, periodWrong, volumeWrong, notificationRules}
+use Rattle.meaning.specs.Notifications.{keyOrAgentWrong, originatorRight, highestPeriod, entryAt, periodBefore, periodOffends, volumeOffends, someEntry, firstEntry, notificationRules}
 use Rattle.clock.specs.declared.Clock.{Clock}
 use Rattle.clock.specs.Structs.{timeOf}
+use Rattle.meaning.proofs.Entries.{not-between, least-is-first, past-the-50th}
 use Rattle.meaning.proofs.MessageValues.{originator-again}
 use Rattle.setups.proofs.SetupHeld.{rows-own}
 use Rattle.setups.specs.Structs.{codesOf}
@@ -94,76 +95,109 @@ periods-capped m codes d high h =
       getD-build-past m (λ (k : ℕ). getD codes k 0) 0 (min d high) (omega arith),
     ))
 
--- ---- periods that rise
+-- ---- entries
 
--- the period before the one at place k, where p are the periods and `before` stands before the first
-abbrev pub prior : ℕ → (ℕ → ℕ) → ℕ → ℕ
-prior before p zero = before
-prior before p (suc k) = p k
+-- the entry at a place is the array's
+entry-is : (n : Notification) (k : ℕ) → k < n .count → entryAt (notificationOf n) k ≡ entryOf (getD (n .entries) k noEntry)
+unfolding entryAt notificationOf entriesOf
+entry-is n k h = getD-build (n .count) (λ (j : ℕ). entryOf (getD (n .entries) j noEntry)) (record { period = 0; volume = pos 0 }) k h
+
+-- as many as it counts
+pub many-entries : (n : Notification) → length (notificationOf n .entries) ≡ n .count
+unfolding notificationOf entriesOf
+many-entries n = length-build (n .count) (λ (k : ℕ). entryOf (getD (n .entries) k noEntry))
+
+-- some entry offends exactly where the first place that does is below the count
+pub some-below-count : (n : Notification) (offends : ℕ → Bool) {k : ℕ} → k ≡ firstEntry (notificationOf n) offends
+    → someEntry (notificationOf n) offends ≡ k <? n .count
+unfolding someEntry firstEntry
+some-below-count n offends e =
+    some-first (length (notificationOf n .entries)) offends ∙ ap₂ _<?_ (sym e) (many-entries n)
+
+-- ---- periods
+
+-- the period before the one at place k; 0 stands before the first
+abbrev pub prior : (ℕ → ℕ) → ℕ → ℕ
+prior p zero = 0
+prior p (suc k) = p k
 
 -- the period at place k does not rise, or is too high
-abbrev pub wrongPeriod : ℕ → ℕ → (ℕ → ℕ) → ℕ → Bool
-wrongPeriod before highest p k = not (between (suc (prior before p k)) highest (p k))
-
-prior-next : (p : ℕ → ℕ) (k : ℕ) → prior (p 0) (λ (j : ℕ). p (suc j)) k ≡ p k
-prior-next p zero = refl
-prior-next p (suc k) = refl
-
-not-or : (a b : Bool) → a && not b ≡ not (not a || b)
-not-or true b = refl
-not-or false b = refl
-
--- rising is that no place is wrong
-pub rising-below : {K : Sort} (n before highest : ℕ) (f : ℕ → Messages.Entry K)
-    → rising before highest (build n f) ≡ not (someBelow n (wrongPeriod before highest (λ (k : ℕ). f k .period)))
-unfolding rising build
-rising-below zero before highest f = ap not (sym (some-none (wrongPeriod before highest (λ (k : ℕ). f k .period))))
-rising-below {K} (suc n) before highest f =
-    let p : ℕ → ℕ = λ k. f k .period in
-    let here : Bool = between (suc before) highest (p 0) in
-    let later : Bool = someBelow n (λ (k : ℕ). wrongPeriod before highest p (suc k)) in
-    let same : someBelow n (wrongPeriod (p 0) highest (λ (k : ℕ). p (suc k))) ≡ later =
-    some-ext n (wrongPeriod (p 0) highest (λ (k : ℕ). p (suc k))) (λ (k : ℕ). wrongPeriod before highest p (suc k))
-    (λ k h. ap (λ (x : ℕ). not (between (suc x) highest (p (suc k)))) (prior-next p k)) in
-    ap (λ (t : Bool). here && t) (rising-below n (p 0) highest (λ (k : ℕ). f (suc k)) ∙ ap not same)
-    ∙ not-or here later
-    ∙ ap not (sym (some-front n (wrongPeriod before highest p)))
+abbrev pub wrongPeriod : ℕ → (ℕ → ℕ) → ℕ → Bool
+wrongPeriod highest p k = not (between (suc (prior p k)) highest (p k))
 
 abbrev pub periodOf : Notification → ℕ → ℕ
 periodOf n k = getD (n .entries) k noEntry .period
 
--- a notification's periods are wrong where they are too many or one is wrong
-pub periods-wrong : (s : Setting) (n : Notification)
-    → periodWrong s (notificationOf n) ≡ 50 <? n .count || someBelow (n .count) (wrongPeriod 0 (highestPeriod s (notificationOf n)) (periodOf n))
-unfolding periodWrong notificationOf entriesOf
-periods-wrong s n =
-    let f : ℕ → Messages.Entry contracts = λ k. entryOf (getD (n .entries) k noEntry) in
-    let h : ℕ = highestPeriod s (notificationOf n) in
-    ap₂ _||_
-    (ap (λ (m : ℕ). 50 <? m) (length-build (n .count) f))
-    (ap not (rising-below (n .count) 0 h f) ∙ not-not (someBelow (n .count) (wrongPeriod 0 h (periodOf n))))
+prior-is : (n : Notification) (k : ℕ) → k < n .count → periodBefore (notificationOf n) k ≡ prior (periodOf n) k
+unfolding periodBefore
+prior-is n zero h = refl
+prior-is n (suc k) h = ap (λ (e : Messages.Entry contracts). e .period) (entry-is n k (omega arith))
+
+-- what offends of the entries that there is room for
+offends-wrong : (s : Setting) (n : Notification) (k : ℕ) → k < n .count → k < 50
+    → periodOffends s (notificationOf n) k ≡ wrongPeriod (highestPeriod s (notificationOf n)) (periodOf n) k
+unfolding periodOffends
+offends-wrong s n k h few =
+    let highest : ℕ = highestPeriod s (notificationOf n) in
+    rw (lt-leb 50 k few, entry-is n k h, prior-is n k h) (sym (not-between (prior (periodOf n) k) highest (periodOf n k)))
+
+-- what the search shows: no period before this place is wrong, and this one is, or the entries that there is room for end here
+module _ (s : Setting) (n : Notification) {highest : ℕ} (e : highest ≡ highestPeriod s (notificationOf n)) (k : ℕ) (inside : k ≤ min (n .count) 50)
+    (right : someBelow k (wrongPeriod highest (periodOf n)) ≡ false) where
+  none-before : (j : ℕ) → j < k → periodOffends s (notificationOf n) j ≡ false
+  none-before j h =
+      offends-wrong s n j (omega (arith, inside)) (omega (arith, inside))
+      ∙ ap (λ (x : ℕ). wrongPeriod x (periodOf n) j) (sym e)
+      ∙ some-miss k (wrongPeriod highest (periodOf n)) right j h
+
+  pub period-found : k < min (n .count) 50 → wrongPeriod highest (periodOf n) k ≡ true → k ≡ firstEntry (notificationOf n) (periodOffends s (notificationOf n))
+  period-found h wrong =
+      sym (least-is-first (notificationOf n) (periodOffends s (notificationOf n)) k
+      (record {
+        there = rw (many-entries n) (omega (arith, h));
+        at-fault = offends-wrong s n k (omega (arith, h)) (omega (arith, h)) ∙ ap (λ (x : ℕ). wrongPeriod x (periodOf n) k) (sym e) ∙ wrong;
+        none-before = none-before;
+      }))
+
+  pub periods-ended : min (n .count) 50 ≤ k → k ≡ firstEntry (notificationOf n) (periodOffends s (notificationOf n))
+  unfolding firstEntry
+  periods-ended h =
+      sym (rw (many-entries n)
+      (first-is (n .count) (periodOffends s (notificationOf n)) k (omega (arith, inside)) none-before
+      (λ l. past-the-50th s (notificationOf n) k (omega (arith, h, inside, l)))))
 
 -- ---- volumes
-
--- a search that stops at a bound past which nothing passes
-pub some-capped : (n m : ℕ) (f : ℕ → Bool) → ((k : ℕ) → m ≤ k → f k ≡ false) → someBelow (min n m) f ≡ someBelow n f
-some-capped n m f past =
-    same-false (someBelow (min n m) f) (someBelow n f)
-    (λ e. some-all n f (λ k l.
-    by-lt k m
-    (λ h. some-miss (min n m) f e k (omega arith))
-    (λ h. past k h)))
-    (λ e. some-all (min n m) f (λ k l. some-miss n f e k (omega arith)))
 
 abbrev pub wrongVolume : Notification → ℕ → Bool
 wrongVolume n k = not (within 99999999 (getD (n .entries) k noEntry .volume))
 
--- no volume past the array is wrong
-pub volumes-wrong : (n : Notification) → length (n .entries) ≡ 50 → volumeWrong (notificationOf n) ≡ someBelow (min (n .count) 50) (wrongVolume n)
-unfolding volumeWrong notificationOf entriesOf
-volumes-wrong n l =
-    any-build (n .count) (λ (e : Messages.Entry contracts). not (contracts .inRange (e .volume))) (λ (k : ℕ). entryOf (getD (n .entries) k noEntry))
-    ∙ sym (some-capped (n .count) 50 (wrongVolume n) (λ k h. rw (List·getD-eq-default (n .entries) noEntry {n = k} (rw l h))))
+offends-out : (n : Notification) (k : ℕ) → k < n .count → volumeOffends (notificationOf n) k ≡ wrongVolume n k
+unfolding volumeOffends
+offends-out n k h = ap (λ (e : Messages.Entry contracts). not (contracts .inRange (e .volume))) (entry-is n k h)
+
+module _ (n : Notification) (k : ℕ) (inside : k ≤ min (n .count) 50) (right : someBelow k (wrongVolume n) ≡ false) where
+  volumes-before : (j : ℕ) → j < k → volumeOffends (notificationOf n) j ≡ false
+  volumes-before j h = offends-out n j (omega (arith, inside)) ∙ some-miss k (wrongVolume n) right j h
+
+  pub volume-found : k < min (n .count) 50 → wrongVolume n k ≡ true → k ≡ firstEntry (notificationOf n) (volumeOffends (notificationOf n))
+  volume-found h wrong =
+      sym (least-is-first (notificationOf n) (volumeOffends (notificationOf n)) k
+      (record {
+        there = rw (many-entries n) (omega (arith, h));
+        at-fault = offends-out n k (omega (arith, h)) ∙ wrong;
+        none-before = volumes-before;
+      }))
+
+  -- no volume past the array is out of range
+  pub volumes-ended : length (n .entries) ≡ 50 → min (n .count) 50 ≤ k → n .count ≡ firstEntry (notificationOf n) (volumeOffends (notificationOf n))
+  unfolding firstEntry
+  volumes-ended size h =
+      sym (rw (many-entries n)
+      (first-is (n .count) (volumeOffends (notificationOf n)) (n .count) (omega arith)
+      (λ j l. by-lt j k
+      (λ m. volumes-before j m)
+      (λ m. offends-out n j l ∙ rw (List·getD-eq-default (n .entries) noEntry {n = j} (rw size (omega (arith, h, m))))))
+      (λ l. absurd (omega (arith, l)))))
 
 -- ---- the rules
 

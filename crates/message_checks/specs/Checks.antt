@@ -3,6 +3,7 @@ use mathlib.Core.Bool.{_&&_}
 use mathlib.Core.List.{List, _++_}
 use Prim.Native.Nat.{ℕ}
 use Rattle.words.specs.Tests.{_≤?_, _=?_}
+use Rattle.words.specs.Rules as Rules
 use Rattle.words.specs.Rules.{Rule, _when_else_, done}
 use Rattle.meaning.specs.Settings.{Setting}
 use Rattle.meaning.specs.Ledgers.{Sort}
@@ -10,6 +11,11 @@ use Rattle.meaning.specs.Messages.{Notification, Nullification}
 use Rattle.meaning.specs.Refusals.{whileOpen}
 use Rattle.meaning.specs.Notifications.{authorisationRules, dayRules, entryRules}
 use Rattle.meaning.specs.Calls.{pairRules}
+use Rattle.message_checks.specs.declared.Outcome.{Outcome}
+
+-- an outcome, as the code has it
+abbrev pub outcomeOf : Rules.Outcome → Outcome
+outcomeOf o = record { answer = o .answer; place = o .place }
 
 -- 2 to 11 of a notification, which read no table
 unfoldable pub checkRules : {K : Sort} → Setting → Notification K → List Rule

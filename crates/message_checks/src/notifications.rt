@@ -1,4 +1,5 @@
 // What can be wrong with a notification (meaning, Notifications.antt): refusals 2 to 11, which need no table, for any book, sound or not; and 12 to 14.
+use crate::Outcome;
 use book::Book;
 use book::state;
 use limits::kinds;
@@ -7,14 +8,14 @@ ghost use mathlib.Core.Bool.{not, _||_};
 ghost use mathlib.Core.Path.{_≡_};
 ghost use Prim.Native.Nat.{min};
 ghost use Rattle.words.specs.Tests.{_=?_, between, within};
-ghost use Rattle.words.specs.Rules.{answer};
+ghost use Rattle.words.specs.Rules.{answer, outcome};
 ghost use Rattle.meaning.specs.Time.{dayOf, currentDay};
 ghost use Rattle.meaning.specs.Authorisations.{rowAt};
-ghost use Rattle.meaning.specs.Notifications.{originatorRight, highestPeriod, periodWrong, volumeWrong, authorisationRules, dayRules, entryRules};
+ghost use Rattle.meaning.specs.Notifications.{originatorRight, highestPeriod, periodOffends, volumeOffends, firstEntry, authorisationRules, dayRules, entryRules};
 ghost use Rattle.messages.specs.Structs.{notificationOf};
 ghost use Rattle.setups.specs.Structs.{rowOf};
 ghost use Rattle.book.specs.Structs.{timeIn, rowsIn, settingIn};
-ghost use Rattle.message_checks.specs.Checks.{checkRules, lateRules};
+ghost use Rattle.message_checks.specs.Checks.{outcomeOf, checkRules, lateRules};
 
 const LAST_PLACE: u16 = 255;
 
@@ -77,26 +78,23 @@ fn highest_period(b: Book, n: messages::Notification) -> u8
     clock::periods_at(state::clock_of(b), place)
 }
 
-// More than 50 entries, or one whose period does not rise or is too high: the first such entry ends the search.
-fn period_wrong(b: Book, n: messages::Notification) -> bool
-    ensures { λ r. ⌜ r ≡ periodWrong (settingIn b) (notificationOf n) ⌝ }
+// The place of the first entry whose period is 0, too high or not above the one before it, or that is past the 50th; the count where there is none.
+fn first_wrong_period(b: Book, n: messages::Notification) -> u8
+    ensures { λ r. ⌜ r ≡ firstEntry (notificationOf n) (periodOffends (settingIn b) (notificationOf n)) ⌝ }
 {
-    let count = n.count;
-    if limits::MOST_ENTRIES < count {
-        return true;
-    }
+    let count = messages::entries_inside(n.count);
     let highest = highest_period(b, n);
     let mut before: u8 = 0;
     let mut k: u8 = 0;
     while k < count {
         let period = n.entries[k as usize].period;
         if !((before < period) & (period <= highest)) {
-            return true;
+            return k;
         }
         before = period;
         k += 1;
     }
-    false
+    k
 }
 
 fn volume_out(v: i32) -> bool
@@ -105,20 +103,20 @@ fn volume_out(v: i32) -> bool
     !((limits::LEAST_KWH <= v) & (v <= limits::MOST_KWH))
 }
 
-// A volume out of range: the first such entry ends the search.
-fn volume_wrong(n: messages::Notification) -> bool
-    ensures { λ r. ⌜ r ≡ volumeWrong (notificationOf n) ⌝ }
+// The place of the first entry whose volume is out of range; the count where there is none.
+fn first_wrong_volume(n: messages::Notification) -> u8
+    ensures { λ r. ⌜ r ≡ firstEntry (notificationOf n) (volumeOffends (notificationOf n)) ⌝ }
 {
     let count = messages::entries_inside(n.count);
     let mut k: u8 = 0;
     while k < count {
         let e = n.entries[k as usize];
         if volume_out(e.volume) {
-            return true;
+            return k;
         }
         k += 1;
     }
-    false
+    n.count
 }
 
 // 3 to 6: its authorisation is one of the book's, and it may be sent under it today.
@@ -160,37 +158,55 @@ fn days_refusal(b: Book, n: messages::Notification, today: u32) -> u8
     0
 }
 
-// 10 and 11: its entries.
-fn entries_refusal(b: Book, n: messages::Notification) -> u8
-    ensures { λ r. ⌜ r ≡ answer (entryRules (settingIn b) (notificationOf n)) ⌝ }
+// 10 and 11: its entries, with the place of the first that offends (02, A3).
+fn entries_outcome(b: Book, n: messages::Notification) -> Outcome
+    ensures { λ r. ⌜ r ≡ outcomeOf (outcome (entryRules (settingIn b) (notificationOf n))) ⌝ }
 {
-    if period_wrong(b, n) {
-        return numbers::PERIOD_WRONG;
+    let period = first_wrong_period(b, n);
+    if period < n.count {
+        return Outcome {
+            answer: numbers::PERIOD_WRONG,
+            place: period,
+        };
     }
-    if volume_wrong(n) {
-        return numbers::VOLUME_WRONG;
+    let volume = first_wrong_volume(n);
+    if volume < n.count {
+        return Outcome {
+            answer: numbers::VOLUME_WRONG,
+            place: volume,
+        };
     }
-    0
+    placeless(0)
 }
 
-// The number of the first rule from 2 to 11 that refuses the notification; 0 where none does.
-pub fn checks_refusal(b: Book, n: messages::Notification) -> u8
-    ensures { λ r. ⌜ r ≡ answer (checkRules (settingIn b) (notificationOf n)) ⌝ }
+// An answer that carries no place.
+fn placeless(answer: u8) -> Outcome
+    ensures { λ r. ⌜ r ≡ record { answer = answer; place = 0 } ⌝ }
+{
+    Outcome {
+        answer: answer,
+        place: 0,
+    }
+}
+
+// The first rule from 2 to 11 that refuses the notification, by its number and the place that it carries; 0 where none does.
+pub fn checks_outcome(b: Book, n: messages::Notification) -> Outcome
+    ensures { λ r. ⌜ r ≡ outcomeOf (outcome (checkRules (settingIn b) (notificationOf n))) ⌝ }
 {
     let time = state::clock_of(b);
     if clock::every_gate_closed(time) {
-        return numbers::EVERY_GATE_CLOSED;
+        return placeless(numbers::EVERY_GATE_CLOSED);
     }
     let today = clock::current_day(time);
     let authorisation = authorisation_refusal(b, n, today);
     if authorisation != 0 {
-        return authorisation;
+        return placeless(authorisation);
     }
     let days = days_refusal(b, n, today);
     if days != 0 {
-        return days;
+        return placeless(days);
     }
-    entries_refusal(b, n)
+    entries_outcome(b, n)
 }
 
 // 12, 13 and 14, of its kind, its authorisation's type, its slot and the number of slots.

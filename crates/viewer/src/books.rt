@@ -3,6 +3,7 @@
 use crate::asked;
 use book::Book;
 ghost use mathlib.Core.Path.{_≡_};
+ghost use Prim.Native.Nat.{min};
 ghost use lib.ListN.{length};
 ghost use lib.Seq.{sets};
 ghost use Rattle.words.specs.Rules.{answer};
@@ -12,7 +13,7 @@ ghost use Rattle.meaning.specs.Soundness.{sound};
 ghost use Rattle.meaning.specs.Notifications.{notified};
 ghost use Rattle.meaning.specs.Calls.{message, gateRules, refusal};
 ghost use Rattle.meaning.specs.PackedSetups.{readSetup};
-ghost use Rattle.meaning.specs.PackedCalls.{applied, runAnswer, runOn};
+ghost use Rattle.meaning.specs.PackedCalls.{applied, answersIn, placesIn, runAnswer, runOn};
 ghost use Rattle.meaning.specs.Rows.{rowRules};
 ghost use Rattle.setups.specs.Structs.{setupOf};
 ghost use Rattle.setup_reading.specs.Structs.{setupRead};
@@ -132,13 +133,14 @@ pub extern "C" fn ghendufika_apply_all(
     side1: &mut [i32],
     side2: &mut [i32],
     answers: &mut [u8],
+    places: &mut [u8],
 ) -> calls::AppliedAll
     ensures { λ r. do
       let before = bookOf b (now (held .entry)) (now (side1 .entry)) (now (side2 .entry))
-      let whole = runOn (length (now (answers .entry))) before (now (bytes .entry))
-      ⌜ (r ≡ ranOf b (runAnswer before) whole) × (now (held .exit) ≡ whole .book .ledger .held) × (now (side1 .exit) ≡ whole .book .ledger .side1) × (now (side2 .exit) ≡ whole .book .ledger .side2) × (now (answers .exit) ≡ sets (now (answers .entry)) 0 (whole .answers)) ⌝ }
+      let whole = runOn (min (length (now (answers .entry))) (length (now (places .entry)))) before (now (bytes .entry))
+      ⌜ (r ≡ ranOf b (runAnswer before) whole) × (now (held .exit) ≡ whole .book .ledger .held) × (now (side1 .exit) ≡ whole .book .ledger .side1) × (now (side2 .exit) ≡ whole .book .ledger .side2) × (now (answers .exit) ≡ sets (now (answers .entry)) 0 (answersIn (whole .outcomes))) × (now (places .exit) ≡ sets (now (places .entry)) 0 (placesIn (whole .outcomes))) ⌝ }
 {
-    calls::packed::apply_all(b, bytes, held, side1, side2, answers)
+    calls::packed::apply_all(b, bytes, held, side1, side2, answers, places)
 }
 
 #[no_mangle]

@@ -68,7 +68,7 @@ returns-2 c =
     let p = c .before .before .before in
     let a = begun p .args in
     let u = unread-applies (a .b) (now (a .held)) (now (a .side1)) (now (a .side2)) (now (a .bytes)) (is-sound p) (λ z. c .before .if2 .taken (number p ∙ z)) in
-    (c .not-applied2 .ensures ∙ ap (λ (k : ℕ). record { answer = k; kind = 0; slot = 0; length = 0; book = a .b }) (number p) ∙ u .0, u .1, u .2, u .3)
+    (c .not-applied2 .ensures ∙ ap (λ (k : ℕ). record { answer = k; kind = 0; slot = 0; place = 0; length = 0; book = a .b }) (number p) ∙ u .0, u .1, u .2, u .3)
 
 do-message-requires : tie.Need-do-message-requires
 do-message-requires c κs = is-sound (c .before .before .before .before .before .before)

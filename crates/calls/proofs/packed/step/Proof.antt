@@ -19,7 +19,7 @@ returns c =
     let a = start p .args in
     let number = read-answer (now (a .bytes)) (p .read-message .ensures) in
     let u = unread-steps (a .b) (now (a .held)) (now (a .side1)) (now (a .side2)) (now (a .bytes)) (λ z. c .if1 .taken (number ∙ z)) in
-    (ap (λ (k : ℕ). record { answer = k; length = 0; book = a .b }) number ∙ u .0, u .1, u .2, u .3)
+    (ap (λ (k : ℕ). record { answer = k; place = 0; length = 0; book = a .b }) number ∙ u .0, u .1, u .2, u .3)
 
 do-message-requires : tie.Need-do-message-requires
 do-message-requires c κs = start (c .before .before .before .before .before .before) .pre

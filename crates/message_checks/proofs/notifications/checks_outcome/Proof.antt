@@ -1,16 +1,16 @@
--- Part by part: a part's refusal is the answer, and where it has none the parts after it answer.
+-- Part by part: a part's refusal is the outcome, and where it has none the parts after it decide. The entries' alone carry a place.
 use borrow.Author.Needs.{needs}
 use mathlib.Core.List.{List, _++_}
-use mathlib.Core.Path.{refl, sym, _∙_}
+use mathlib.Core.Path.{refl, sym, ap, _∙_}
 use Rattle.words.specs.Rules.{Rule}
-use Rattle.laws.proofs.RuleByRule.{Answers, answered, part-met, part-passed}
+use Rattle.laws.proofs.RuleByRule.{Outcomes, told, placeless-met, placeless-passed}
 use Rattle.meaning.specs.Notifications.{authorisationRules, dayRules, entryRules}
 use Rattle.messages.specs.Structs.{notificationOf}
 use Rattle.book.specs.Structs.{settingIn}
-use Rattle.message_checks.specs.Checks.{checkRules}
+use Rattle.message_checks.specs.Checks.{outcomeOf, checkRules}
 use Rattle.message_checks.proofs.CheckLaws.{gates-test, today-is}
-use Rattle.message_checks.proofs.notifications.checks_refusal.Statement.{statement}
-use Rattle.message_checks.proofs.notifications.checks_refusal.Tie as tie
+use Rattle.message_checks.proofs.notifications.checks_outcome.Statement.{statement}
+use Rattle.message_checks.proofs.notifications.checks_outcome.Tie as tie
 
 module _ (s : tie.Start) where
   abbrev authorisation : List Rule
@@ -28,12 +28,17 @@ clock-of-requires c κs = search needs
 every-gate-closed-requires : tie.Need-every-gate-closed-requires
 every-gate-closed-requires c κs = search needs
 
+placeless-requires : tie.Need-placeless-requires
+placeless-requires c κs = search needs
+
 returns : tie.Need-returns
 unfolding checkRules
 returns c =
     let time : tie.After-clock-of = search in
     let start : tie.Start = search in
-    answered _ (Answers.met (sym (gates-test (start .args .b) (time .clock-of .ensures) (c .before .every-gate-closed .ensures)) ∙ c .if1 .taken))
+    let shut : tie.Then1 = search in
+    c .placeless .ensures
+    ∙ ap outcomeOf (told _ (Outcomes.met (sym (gates-test (start .args .b) (time .clock-of .ensures) (shut .before .every-gate-closed .ensures)) ∙ shut .if1 .taken)))
 
 current-day-requires : tie.Need-current-day-requires
 current-day-requires c κs = search needs
@@ -44,15 +49,20 @@ authorisation-refusal-requires c κs =
     let start : tie.Start = search in
     today-is (start .args .b) (time .clock-of .ensures) (c .current-day .ensures)
 
+placeless-requires-2 : tie.Need-placeless-requires-2
+placeless-requires-2 c κs = search needs
+
 returns-2 : tie.Need-returns-2
 unfolding checkRules
 returns-2 c =
+    let refused : tie.Then2 = search in
     let some : tie.Else1 = search in
     let time : tie.After-clock-of = search in
     let start : tie.Start = search in
-    answered _
-    (Answers.passed (sym (gates-test (start .args .b) (time .clock-of .ensures) (some .before .every-gate-closed .ensures)) ∙ some .if1 .left)
-    (part-met (authorisation start) (days start ++ entries start) (c .before .authorisation-refusal .ensures) (c .if2 .taken)))
+    c .placeless2 .ensures
+    ∙ ap outcomeOf (told _
+    (Outcomes.passed (sym (gates-test (start .args .b) (time .clock-of .ensures) (some .before .every-gate-closed .ensures)) ∙ some .if1 .left)
+    (placeless-met (authorisation start) (days start ++ entries start) (refused .before .authorisation-refusal .ensures) refl (refused .if2 .taken))))
 
 days-refusal-requires : tie.Need-days-refusal-requires
 days-refusal-requires c κs =
@@ -61,20 +71,25 @@ days-refusal-requires c κs =
     let start : tie.Start = search in
     today-is (start .args .b) (time .clock-of .ensures) (day .current-day .ensures)
 
+placeless-requires-3 : tie.Need-placeless-requires-3
+placeless-requires-3 c κs = search needs
+
 returns-3 : tie.Need-returns-3
 unfolding checkRules
 returns-3 c =
+    let refused : tie.Then3 = search in
     let sent : tie.Else2 = search in
     let some : tie.Else1 = search in
     let time : tie.After-clock-of = search in
     let start : tie.Start = search in
-    answered _
-    (Answers.passed (sym (gates-test (start .args .b) (time .clock-of .ensures) (some .before .every-gate-closed .ensures)) ∙ some .if1 .left)
-    (part-passed (authorisation start) (days start ++ entries start) (sent .before .authorisation-refusal .ensures) refl (sent .if2 .left)
-    (part-met (days start) (entries start) (c .before .days-refusal .ensures) (c .if3 .taken))))
+    c .placeless3 .ensures
+    ∙ ap outcomeOf (told _
+    (Outcomes.passed (sym (gates-test (start .args .b) (time .clock-of .ensures) (some .before .every-gate-closed .ensures)) ∙ some .if1 .left)
+    (placeless-passed (authorisation start) (days start ++ entries start) (sent .before .authorisation-refusal .ensures) refl (sent .if2 .left)
+    (placeless-met (days start) (entries start) (refused .before .days-refusal .ensures) refl (refused .if3 .taken)))))
 
-entries-refusal-requires : tie.Need-entries-refusal-requires
-entries-refusal-requires c κs = search needs
+entries-outcome-requires : tie.Need-entries-outcome-requires
+entries-outcome-requires c κs = search needs
 
 returns-4 : tie.Need-returns-4
 unfolding checkRules
@@ -84,23 +99,27 @@ returns-4 c =
     let some : tie.Else1 = search in
     let time : tie.After-clock-of = search in
     let start : tie.Start = search in
-    answered _
-    (Answers.passed (sym (gates-test (start .args .b) (time .clock-of .ensures) (some .before .every-gate-closed .ensures)) ∙ some .if1 .left)
-    (part-passed (authorisation start) (days start ++ entries start) (sent .before .authorisation-refusal .ensures) refl (sent .if2 .left)
-    (part-passed (days start) (entries start) (dated .before .days-refusal .ensures) refl (dated .if3 .left)
-    (Answers.asked (c .entries-refusal .ensures)))))
+    c .entries-outcome .ensures
+    ∙ ap outcomeOf (told _
+    (Outcomes.passed (sym (gates-test (start .args .b) (time .clock-of .ensures) (some .before .every-gate-closed .ensures)) ∙ some .if1 .left)
+    (placeless-passed (authorisation start) (days start ++ entries start) (sent .before .authorisation-refusal .ensures) refl (sent .if2 .left)
+    (placeless-passed (days start) (entries start) (dated .before .days-refusal .ensures) refl (dated .if3 .left)
+    (Outcomes.asked refl)))))
 
-pub checks-refusal-spec : {M : Type 1} → statement M
-checks-refusal-spec =
+pub checks-outcome-spec : {M : Type 1} → statement M
+checks-outcome-spec =
     tie.close
     (tie.spec
     clock-of-requires
     every-gate-closed-requires
+    placeless-requires
     returns
     current-day-requires
     authorisation-refusal-requires
+    placeless-requires-2
     returns-2
     days-refusal-requires
+    placeless-requires-3
     returns-3
-    entries-refusal-requires
+    entries-outcome-requires
     returns-4)

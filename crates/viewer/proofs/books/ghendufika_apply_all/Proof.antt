@@ -18,8 +18,13 @@ same-length-3 c = search needs
 same-length-4 : tie.Need-same-length-4
 same-length-4 c = search needs
 
+same-length-5 : tie.Need-same-length-5
+same-length-5 c = search needs
+
 returns : tie.Need-returns
-returns c = c .before .before .before .before .before .before .apply-all .ensures
+returns c =
+    let ran : tie.After-apply-all = search in
+    ran .apply-all .ensures
 
 pub ghendufika-apply-all-spec : {M : Type 1} → statement M
-ghendufika-apply-all-spec = tie.close (tie.spec apply-all-requires same-length same-length-2 same-length-3 same-length-4 returns)
+ghendufika-apply-all-spec = tie.close (tie.spec apply-all-requires same-length same-length-2 same-length-3 same-length-4 same-length-5 returns)
