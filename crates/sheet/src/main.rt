@@ -38,7 +38,7 @@ fn input_buffer() -> [u8; 2048]
 }
 
 // A side's table for 16 slots and the 15 days that a packed setup can name.
-fn places() -> [i32; 12000]
+fn side_table() -> [i32; 12000]
     ensures { λ r. ⌜ 12000 ≡ length r ⌝ }
 {
     [0; 12000]
@@ -67,6 +67,7 @@ fn take_turn(
     side1: &mut [i32],
     side2: &mut [i32],
     answers: &mut [u8],
+    places: &mut [u8],
     out: &mut [u8],
 ) -> Progress
     requires { ⌜ before .kept ≤ length (now bytes) ⌝ }
@@ -84,6 +85,7 @@ fn take_turn(
         side1,
         side2,
         answers,
+        places,
         out,
     );
     print(out, told.written);
@@ -109,11 +111,22 @@ fn print_messages(
     requires { ⌜ start .kept ≤ length (now bytes) ⌝ }
     ensures { λ r. ⌜ (r .going ≡ true → r .turns ≡ 18446744073709551615) ⌝ }
 {
+    // A message takes a byte or more, so there is room for the answer to each that is at hand, and for its place.
     let mut answers = input_buffer();
+    let mut places = input_buffer();
     let mut progress = start;
     let mut turns: u64 = 0;
     while (turns < u64::MAX) & progress.going {
-        progress = take_turn(progress, bytes, held, side1, side2, &mut answers, out);
+        progress = take_turn(
+            progress,
+            bytes,
+            held,
+            side1,
+            side2,
+            &mut answers,
+            &mut places,
+            out,
+        );
         turns += 1;
     }
     let after = progress.book;
@@ -183,16 +196,16 @@ fn main() {
     let mut bytes = input_buffer();
     let mut out = io::large_buffer();
     let mut held = [0u32; beginning::SLOTS];
-    let mut places1 = places();
-    let mut places2 = places();
+    let mut table1 = side_table();
+    let mut table2 = side_table();
     let have = io::read_full(STANDARD_INPUT, &mut bytes);
     let lent = beginning::lent_for(&bytes[..have]);
     print_sheet(
         &mut bytes,
         have,
         &mut held,
-        &mut places1[..lent],
-        &mut places2[..lent],
+        &mut table1[..lent],
+        &mut table2[..lent],
         &mut out,
     );
 }

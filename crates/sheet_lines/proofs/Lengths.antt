@@ -5,18 +5,27 @@ use lib.IntN.{ℤ, pos, negsuc}
 use lib.ListN.{length, length-append}
 use lib.Signed.{mag}
 use Rattle.meaning.specs.Decimals.{signed}
-use Rattle.meaning.specs.SheetLines.{sheetLine, messageLine, totalLine, endLine, setupLine}
+use Rattle.words.specs.Rules.{Outcome}
+use Rattle.laws.proofs.Cases.{on}
+use Rattle.meaning.specs.SheetLines.{sheetLine, carriesPlace, messageLine, totalLine, endLine, setupLine}
 use Rattle.sheet_lines.specs.Places.{mostBytes}
 use Rattle.meaning.proofs.Decimals.{count-most, count-word}
+use Rattle.sheet_lines.proofs.Sequences.{line-with-place, line-without}
 
 pub sheet-most : (first days accounts : ℕ) → first < 65536 → days < 256 → accounts < 256 → length (sheetLine first days accounts) ≤ mostBytes
 unfolding sheetLine
 sheet-most first days accounts f d a =
     simp length-append (omega (arith, count-most 4 first (omega arith), count-most 2 days (omega arith), count-most 2 accounts (omega arith)))
 
-pub message-most : (number answer : ℕ) → number < 2 ^ 64 → answer < 256 → length (messageLine number answer) ≤ mostBytes
-unfolding messageLine
-message-most number answer n a = simp length-append (omega (arith, count-word number n, count-most 2 answer (omega arith)))
+-- the longest has a place behind its answer
+pub message-most : (number : ℕ) (told : Outcome) → number < 2 ^ 64 → told .answer < 256 → told .place < 256 → length (messageLine number told) ≤ 31
+message-most number told n a p =
+    let word = count-word number n in
+    let answer = count-most 2 (told .answer) (omega arith) in
+    let place = count-most 2 (told .place) (omega arith) in
+    on (carriesPlace (told .answer))
+    (λ e. rw (line-with-place number told e) (simp length-append (omega (arith, word, answer, place))))
+    (λ e. rw (line-without number told e) (simp length-append (omega (arith, word, answer))))
 
 pub end-most : (count : ℕ) → count < 2 ^ 64 → length (endLine count) ≤ mostBytes
 unfolding endLine

@@ -4,7 +4,8 @@ ghost use Prim.Native.Nat.{_+_, _%_, _≤_};
 ghost use lib.IntN.{natAbs};
 ghost use lib.ListN.{length};
 ghost use Rattle.meaning.specs.Decimals.{decimal, signed};
-ghost use Rattle.meaning.specs.SheetLines.{field, fields, beginning, line, sheetLine, messageLine, messageLines, totalLine, endLine, setupLine};
+ghost use Rattle.meaning.specs.SheetLines.{field, fields, beginning, line, sheetLine, carriesPlace, messageLine, messageLines, totalLine, endLine, setupLine};
+ghost use Rattle.sheet_lines.specs.Outcomes.{outcomesOf};
 ghost use Rattle.sheet_lines.specs.Places.{mostBytes, hasRoom, Written, Puts, PutsAll};
 
 // No line is longer, so a line is written only where so many bytes are free.
@@ -151,27 +152,44 @@ pub fn put_sheet_line(out: &mut [u8], at: usize, first: u16, days: u8, accounts:
     put_line(out, at, b"sheet", &numbers)
 }
 
-// "m NUMBER ANSWER": a message's number, which counts from 1, and its answer.
-pub fn put_message_line(out: &mut [u8], at: usize, number: u64, answer: u8) -> usize
-    ensures { λ r. ⌜ Puts (messageLine number answer) (now (out .entry)) at (now (out .exit)) r ⌝ }
+// Whether a message's line has a third number, the place of the entry at fault (02, A3).
+fn carries_place(answer: u8) -> bool
+    ensures { λ r. ⌜ r ≡ carriesPlace answer ⌝ }
 {
+    (answer == limits::numbers::PERIOD_WRONG) | (answer == limits::numbers::VOLUME_WRONG)
+}
+
+// "m NUMBER ANSWER": a message's number, which counts from 1, and its answer; the place, counted from 0, stands behind an answer that carries one.
+pub fn put_message_line(out: &mut [u8], at: usize, number: u64, answer: u8, place: u8) -> usize
+    ensures { λ r. ⌜ Puts (messageLine number (record { answer = answer; place = place })) (now (out .entry)) at (now (out .exit)) r ⌝ }
+{
+    if carries_place(answer) {
+        let with_place = [number, answer as u64, place as u64];
+        return put_line(out, at, b"m", &with_place);
+    }
     let numbers = [number, answer as u64];
     put_line(out, at, b"m", &numbers)
 }
 
-// The lines of messages one after the other, the first of which has this number, as long as there is room.
-pub fn put_message_lines(out: &mut [u8], at: usize, first: u64, answers: &[u8]) -> usize
-    ensures { λ r. ⌜ PutsAll (messageLines first (now (answers .entry))) (now (out .entry)) at (now (out .exit)) r ⌝ }
+// The lines of messages one after the other, the first of which has this number, as long as there is room: an answer and the place beside it for each.
+pub fn put_message_lines(
+    out: &mut [u8],
+    at: usize,
+    first: u64,
+    answers: &[u8],
+    places: &[u8],
+) -> usize
+    ensures { λ r. ⌜ PutsAll (messageLines first (outcomesOf (now (answers .entry)) (now (places .entry)))) (now (out .entry)) at (now (out .exit)) r ⌝ }
 {
-    let mut place = at;
+    let mut next = at;
     let mut number = first;
     let mut k: usize = 0;
-    while k < answers.len() {
-        place = put_message_line(out, place, number, answers[k]);
+    while (k < answers.len()) & (k < places.len()) {
+        next = put_message_line(out, next, number, answers[k], places[k]);
         number = std::num::wrapping_add_u64(number, 1);
         k += 1;
     }
-    place
+    next
 }
 
 // "t ACCOUNT DAY PERIOD KWH": a total that is not zero.

@@ -5,14 +5,17 @@ use mathlib.Core.Path.{_≡_, refl, sym, ap, _∙_}
 use Prim.Native.Nat.{ℕ, suc, _+_, _*_, _%_, _^_, _≤_, _<_}
 use native.Mathlib.Nat.{add-zero, suc-mul}
 use native.Mathlib.Omega.{arith}
-use lib.ListN.{length, getD, length-append}
+use lib.ListN.{length, length-append}
 use lib.Seq.{sets, length-sets}
 use borrow.Author.Tests.{le-leb}
 use Rattle.words.specs.Lists.{join}
+use Rattle.words.specs.Rules.{Outcome}
+use Rattle.sheet_lines.specs.Outcomes.{outcomesOf}
 use Rattle.sheet_lines.specs.Places.{hasRoom, placed, placeAfter, allPlaced, placeAfterAll}
-use Rattle.meaning.specs.SheetLines.{messageLine, messageLines}
-use Rattle.meaning.proofs.Decimals.{count-most, count-word}
+use Rattle.sheet_lines.proofs.Lengths.{message-most}
+use Rattle.meaning.specs.SheetLines.{messageLines}
 use Rattle.laws.proofs.Stores.{sets-append}
+use Rattle.sheet_parts.specs.Program.{Bytes}
 
 -- each line has at most so many bytes
 abbrev pub Short : ℕ → List (List ℕ) → Type 0
@@ -42,15 +45,16 @@ module _ (most : ℕ) where
         rw (p .1) (ap (λ (n : ℕ). placeAfterAll n (at + length line) lines) (sym size) ∙ rest .1 ∙ omega (arith, length-append line (join lines))),
       )
 
--- ---- the lines of a turn: a number, an answer and six more bytes
+-- ---- the lines of a turn, whose answers and places are bytes
 
-pub short-messages : (answers : List ℕ) (number : ℕ) → number < 2 ^ 64 → ((k : ℕ) → getD answers k 0 < 256) → Short 27 (messageLines number answers)
-unfolding messageLines messageLine
-short-messages [] number n a = tt
-short-messages (answer ∷ answers) number n a =
-    (simp length-append (omega (arith, count-word number n, count-most 2 answer (omega (arith, a 0)))), short-messages answers ((number + 1) % 2 ^ 64) (omega arith) (λ k. a (suc k)))
+pub short-messages : (answers places : List ℕ) (number : ℕ) → number < 2 ^ 64 → Bytes answers → Bytes places → Short 31 (messageLines number (outcomesOf answers places))
+unfolding messageLines outcomesOf
+short-messages [] places number n a p = tt
+short-messages (answer ∷ answers) [] number n a p = tt
+short-messages (answer ∷ answers) (place ∷ places) number n a p =
+    (message-most number (record { answer = answer; place = place }) n (a 0) (p 0), short-messages answers places ((number + 1) % 2 ^ 64) (omega arith) (λ k. a (suc k)) (λ k. p (suc k)))
 
-pub many-messages : (answers : List ℕ) (number : ℕ) → length (messageLines number answers) ≡ length answers
+pub many-messages : (outcomes : List Outcome) (number : ℕ) → length (messageLines number outcomes) ≡ length outcomes
 unfolding messageLines
 many-messages [] number = refl
-many-messages (answer ∷ answers) number = ap suc (many-messages answers ((number + 1) % 2 ^ 64))
+many-messages (told ∷ later) number = ap suc (many-messages later ((number + 1) % 2 ^ 64))

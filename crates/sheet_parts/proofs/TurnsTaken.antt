@@ -3,7 +3,7 @@
 use mathlib.Core.Bool.{Bool, true, false}
 use mathlib.Core.List.{List, [], _∷_, _++_, append-assoc, append-nil}
 use mathlib.Core.Path.{_≡_, refl, sym, ap, ap₂, _∙_}
-use Prim.Native.Nat.{ℕ, zero, suc, _+_, _%_, _^_, _≤_}
+use Prim.Native.Nat.{ℕ, zero, suc, _+_, _%_, _^_, _≤_, min}
 use native.Mathlib.Omega.{arith}
 use lib.ListN.{length, take, drop}
 use lib.Seq.{sets}
@@ -11,12 +11,11 @@ use Rattle.words.specs.Lists.{join}
 use Rattle.meaning.specs.Ledgers.{contracts}
 use Rattle.meaning.specs.Books as Meaning
 use Rattle.meaning.specs.Soundness.{sound}
-use Rattle.meaning.specs.PackedCalls.{Run, runOn}
+use Rattle.meaning.specs.PackedCalls.{Run, answersIn, placesIn, runOn}
 use Rattle.meaning.proofs.OnlyClock.{OnlyClock, run-moves-clock}
 use Rattle.meaning.proofs.PackedCalls.{run-is-calls}
 use Rattle.book.specs.Structs.{bookOf}
 use Rattle.calls.proofs.RunLaws.{holds-book}
-use Rattle.meaning.specs.SheetLines.{messageLines}
 use Rattle.sheet_lines.specs.Places.{allPlaced}
 use Rattle.meaning.specs.Sheet.{runOver}
 use Rattle.sheet_turns.specs.Turns.{waits, toldCount, told, toldLines, Turn, turnOf, allTurns}
@@ -25,10 +24,10 @@ use Rattle.sheet_parts.specs.Parts.{turnedOf, keptOf}
 use Rattle.sheet_parts.specs.Program.{State, Bytes, KeepsOf, TurnsOn, GoesOn, no-turn, one-turn, AllTurns, input-ends, unreadable}
 use Rattle.sheet_parts.specs.declared.Turned.{Turned}
 use Rattle.sheet_parts.proofs.AccountDays.{join-append}
-use Rattle.sheet_parts.proofs.Answers.{front-take, few-answers}
+use Rattle.sheet_parts.proofs.Answers.{Stored, few-outcomes, told-stored}
 use Rattle.sheet_parts.proofs.Fronts.{front-text, front-lines}
 use Rattle.sheet_parts.proofs.KeptLaws.{kept-fits}
-use Rattle.sheet_parts.proofs.Room.{short-messages, many-messages}
+use Rattle.sheet_parts.proofs.Room.{Short, short-messages, many-messages}
 use Rattle.sheet_parts.proofs.SameTurns.{same-run, stays-sound}
 use Rattle.sheet_parts.proofs.TurnLaws.{few-told}
 
@@ -65,33 +64,46 @@ module _ {seen : ℕ} {s : State} {ended : Bool} {bytes : List ℕ} {r : Turned}
   abbrev run : Run
   run = runOver (whole s) bytes
 
-  same : runOn (length (turn .answers)) (whole s) bytes ≡ run
-  same = same-run (length (turn .answers)) (whole s) bytes is-sound (omega (arith, turn .few, turn .answers-lent))
+  -- there is room for the outcome of every message
+  abbrev room : ℕ
+  room = min (length (turn .answers)) (length (turn .places))
+
+  same : runOn room (whole s) bytes ≡ run
+  same = same-run room (whole s) bytes is-sound (omega (arith, turn .few, turn .answers-lent, turn .places-lent))
 
   result : r ≡ turnedOf (s .book) seen ended (length bytes) (length (s .out)) run
   result = turn .promise .0 ∙ ap (turnedOf (s .book) seen ended (length bytes) (length (s .out))) same
 
-  few : length (run .answers) ≤ length (turn .answers)
-  few = rw (← same) (few-answers (length (turn .answers)) (whole s) bytes)
+  few : length (run .outcomes) ≤ room
+  few = rw (← same) (few-outcomes room (whole s) bytes)
 
-  told-bytes : Bytes (told ended (length bytes) run)
-  unfolding told toldCount
-  told-bytes =
+  stored : Stored (run .outcomes) (turn .answers) (turn .places) (turn .answers-left) (turn .places-left)
+  stored =
+      record {
+        answers-fit = omega (arith, few);
+        places-fit = omega (arith, few);
+        answers-stored = turn .promise .4 ∙ ap (λ (x : Run). sets (turn .answers) 0 (answersIn (x .outcomes))) same;
+        places-stored = turn .promise .5 ∙ ap (λ (x : Run). sets (turn .places) 0 (placesIn (x .outcomes))) same;
+      }
+
+  -- what is told is at the front of both buffers, in bytes
+  short-told : Short 31 (toldLines seen (told ended (length bytes) run))
+  unfolding told toldCount toldLines
+  short-told =
       let n = toldCount ended (length bytes) run in
-      let front : take n (turn .left) ≡ take n (run .answers) =
-      ap (take n) (turn .promise .4 ∙ ap (λ (x : Run). sets (turn .answers) 0 (x .answers)) same) ∙ front-take (turn .answers) (run .answers) few n (few-told (waits ended (length bytes) run) (length (run .answers))) in
-      rw (← front) (bytes-take n (turn .left) (turn .answered))
+      let inside = few-told (waits ended (length bytes) run) (length (run .outcomes)) in
+      rw (← (told-stored stored n inside))
+      (short-messages (take n (turn .answers-left)) (take n (turn .places-left)) ((seen + 1) % 2 ^ 64) (omega arith) (bytes-take n (turn .answers-left) (turn .answers-bytes)) (bytes-take n (turn .places-left) (turn .places-bytes)))
 
   printed-told : printed ≡ join (toldLines seen (told ended (length bytes) run))
   unfolding turnedOf toldLines toldCount
   printed-told =
-      let answers = told ended (length bytes) run in
-      let number = (seen + 1) % 2 ^ 64 in
-      let text : t .out ≡ allPlaced (s .out) 0 (toldLines seen answers) =
-      turn .promise .5 ∙ ap (λ (x : Run). allPlaced (s .out) 0 (toldLines seen (told ended (length bytes) x))) same in
-      let many : length (messageLines number answers) ≤ 2048 =
-      omega (arith, many-messages answers number, told-counted ended (length bytes) run, few, turn .answers-lent, few-told (waits ended (length bytes) run) (length (run .answers))) in
-      turn .prints ∙ front-lines 27 (s .out) (t .out) (r .written) (toldLines seen answers) (short-messages answers number (omega arith) told-bytes) (omega (arith, many, turn .out-lent)) (text, ap (λ (x : Turned). x .written) result)
+      let outcomes = told ended (length bytes) run in
+      let text : t .out ≡ allPlaced (s .out) 0 (toldLines seen outcomes) =
+      turn .promise .6 ∙ ap (λ (x : Run). allPlaced (s .out) 0 (toldLines seen (told ended (length bytes) x))) same in
+      let many : length (toldLines seen outcomes) ≤ 2048 =
+      omega (arith, many-messages outcomes ((seen + 1) % 2 ^ 64), told-counted ended (length bytes) run, few, turn .answers-lent, few-told (waits ended (length bytes) run) (length (run .outcomes))) in
+      turn .prints ∙ front-lines 31 (s .out) (t .out) (r .written) (toldLines seen outcomes) short-told (omega (arith, many, turn .out-lent)) (text, ap (λ (x : Turned). x .written) result)
 
   clock-moves : OnlyClock (whole s .setting) (run .book .setting)
   unfolding runOver

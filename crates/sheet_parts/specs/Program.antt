@@ -23,7 +23,7 @@ pub record State : Type 0 where
   pub side2 : List ℤ
   pub out : List ℕ
 
--- how many bytes are lent for the input at hand, for the answers to it, and for lines
+-- how many bytes are lent for the input at hand, for the answers to it and for their places, and for lines
 abbrev pub inputSize : ℕ
 inputSize = 2048
 
@@ -60,12 +60,16 @@ pub record KeepsOf (bytes : List ℕ) (used : ℕ) (kept : List ℕ) : Type 0 wh
 
 pub record TurnsOn (seen : ℕ) (s : State) (ended : Bool) (bytes : List ℕ) (r : Turned) (t : State) (printed : List ℕ) : Type 0 where
   pub answers : List ℕ
-  pub left : List ℕ
+  pub places : List ℕ
+  pub answers-left : List ℕ
+  pub places-left : List ℕ
   pub answers-lent : length answers ≡ inputSize
+  pub places-lent : length places ≡ inputSize
   pub out-lent : length (s .out) ≡ linesSize
   pub few : length bytes ≤ inputSize
-  pub answered : Bytes left
-  pub promise : Turns (s .book) seen bytes ended (s .held) (s .side1) (s .side2) answers (s .out) r (t .held) (t .side1) (t .side2) left (t .out)
+  pub answers-bytes : Bytes answers-left
+  pub places-bytes : Bytes places-left
+  pub promise : Turns (s .book) seen bytes ended (s .held) (s .side1) (s .side2) answers places (s .out) r (t .held) (t .side1) (t .side2) answers-left places-left (t .out)
   pub book : t .book ≡ r .book
   pub prints : printed ≡ take (r .written) (t .out)
 

@@ -2,12 +2,12 @@
 use mathlib.Core.Bool.{Bool}
 use mathlib.Core.List.{List}
 use mathlib.Core.Path.{_≡_}
-use Prim.Native.Nat.{ℕ}
+use Prim.Native.Nat.{ℕ, min}
 use lib.IntN.{ℤ}
 use lib.ListN.{length}
 use lib.Seq.{sets}
 use Rattle.meaning.specs.PackedSetups.{readSetup}
-use Rattle.meaning.specs.PackedCalls.{runOn}
+use Rattle.meaning.specs.PackedCalls.{answersIn, placesIn, runOn}
 use Rattle.book.specs.declared.Book.{Book}
 use Rattle.book.specs.Structs.{bookOf}
 use Rattle.book.specs.Answers.{heldOpened, sideOpened}
@@ -27,15 +27,16 @@ Begins bytes held side1 side2 out r h l1 l2 text =
     × (l2 ≡ sideOpened (read .answer) side2)
     × (text ≡ placed out 0 (firstLine read))
 
--- `turn`: its result, the three tables, the answers and the buffer
-abbrev pub Turns : Book → ℕ → List ℕ → Bool → List ℕ → List ℤ → List ℤ → List ℕ → List ℕ → Turned → List ℕ → List ℤ → List ℤ → List ℕ → List ℕ → Type 0
-Turns b seen bytes ended held side1 side2 answers out r h l1 l2 left text =
-    let run = runOn (length answers) (bookOf b held side1 side2) bytes in
+-- `turn`: its result, the three tables, the answers, the places and the buffer
+abbrev pub Turns : Book → ℕ → List ℕ → Bool → List ℕ → List ℤ → List ℤ → List ℕ → List ℕ → List ℕ → Turned → List ℕ → List ℤ → List ℤ → List ℕ → List ℕ → List ℕ → Type 0
+Turns b seen bytes ended held side1 side2 answers places out r h l1 l2 answers-left places-left text =
+    let run = runOn (min (length answers) (length places)) (bookOf b held side1 side2) bytes in
     (r ≡ turnedOf b seen ended (length bytes) (length out) run)
     × (h ≡ run .book .ledger .held)
     × (l1 ≡ run .book .ledger .side1)
     × (l2 ≡ run .book .ledger .side2)
-    × (left ≡ sets answers 0 (run .answers))
+    × (answers-left ≡ sets answers 0 (answersIn (run .outcomes)))
+    × (places-left ≡ sets places 0 (placesIn (run .outcomes)))
     × (text ≡ allPlaced out 0 (toldLines seen (told ended (length bytes) run)))
 
 -- `keep`: the buffer and its result

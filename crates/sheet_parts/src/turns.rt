@@ -38,7 +38,7 @@ fn count_told(waiting: bool, count: usize) -> usize
     count
 }
 
-// Does the messages at hand to the book, and writes a line for each that is told.
+// Does the messages at hand to the book, and writes a line for each that is told: its answer, and the place where that carries one.
 pub fn turn(
     b: book::Book,
     seen: u64,
@@ -48,17 +48,18 @@ pub fn turn(
     side1: &mut [i32],
     side2: &mut [i32],
     answers: &mut [u8],
+    places: &mut [u8],
     out: &mut [u8],
 ) -> Turned
-    ensures { λ r. ⌜ Turns b seen (now (bytes .entry)) ended (now (held .entry)) (now (side1 .entry)) (now (side2 .entry)) (now (answers .entry)) (now (out .entry)) r (now (held .exit)) (now (side1 .exit)) (now (side2 .exit)) (now (answers .exit)) (now (out .exit)) ⌝ }
+    ensures { λ r. ⌜ Turns b seen (now (bytes .entry)) ended (now (held .entry)) (now (side1 .entry)) (now (side2 .entry)) (now (answers .entry)) (now (places .entry)) (now (out .entry)) r (now (held .exit)) (now (side1 .exit)) (now (side2 .exit)) (now (answers .exit)) (now (places .exit)) (now (out .exit)) ⌝ }
 {
     let size = bytes.len();
-    let ran = calls::packed::apply_all(b, bytes, held, side1, side2, answers);
+    let ran = calls::packed::apply_all(b, bytes, held, side1, side2, answers, places);
     let last = last_of(answers, ran.done);
     let waiting = is_kept(ended, size, ran.used, last);
     let told = count_told(waiting, ran.done);
     let first = std::num::wrapping_add_u64(seen, 1);
-    let written = sheet_lines::put_message_lines(out, 0, first, &answers[..told]);
+    let written = sheet_lines::put_message_lines(out, 0, first, &answers[..told], &places[..told]);
     let after = ran.book;
     Turned {
         going: !ended & ((size <= ran.used) | waiting),

@@ -9,6 +9,7 @@ use lib.ListN.{length, drop, length-append}
 use lib.Seq.{take-length, drop-append-le, length-take-le}
 use borrow.Author.Tests.{eq-eqb, ne-eqb}
 use Rattle.words.specs.Tests.{_≤?_}
+use Rattle.words.specs.Rules.{Outcome}
 use Rattle.words.specs.Lists.{join}
 use Rattle.laws.proofs.Cases.{on, by-eq, or-right}
 use Rattle.meaning.specs.Ledgers.{contracts}
@@ -23,10 +24,10 @@ use Rattle.sheet_turns.proofs.InParts.{in-two}
 
 -- ---- the numbers of the lines go on from turn to turn
 
-lines-at : (n m : ℕ) (answers : List ℕ) → n ≡ m → messageLines n answers ≡ messageLines m answers
-lines-at n m answers e = rw e
+lines-at : (n m : ℕ) (outcomes : List Outcome) → n ≡ m → messageLines n outcomes ≡ messageLines m outcomes
+lines-at n m outcomes e = rw e
 
-told-on : (seen : ℕ) (xs ys : List ℕ) → toldLines seen (xs ++ ys) ≡ toldLines seen xs ++ toldLines (seenAfter seen (length xs)) ys
+told-on : (seen : ℕ) (xs ys : List Outcome) → toldLines seen (xs ++ ys) ≡ toldLines seen xs ++ toldLines (seenAfter seen (length xs)) ys
 unfolding toldLines seenAfter messageLines
 told-on seen [] ys = lines-at ((seen + 1) % 2 ^ 64) (((seen + 0) % 2 ^ 64 + 1) % 2 ^ 64) ys (omega arith)
 told-on seen (x ∷ xs) ys =
@@ -42,10 +43,10 @@ seen-on seen m n = omega arith
 
 -- ---- what a turn tells
 
--- all answers, unless one is waited for
-told-all : (ended : Bool) (size : ℕ) (run : Run) → waits ended size run ≡ false → (told ended size run ≡ run .answers) × (toldCount ended size run ≡ length (run .answers))
+-- all outcomes, unless a message is waited for
+told-all : (ended : Bool) (size : ℕ) (run : Run) → waits ended size run ≡ false → (told ended size run ≡ run .outcomes) × (toldCount ended size run ≡ length (run .outcomes))
 unfolding told toldCount countTold
-told-all ended size run e = (rw e (take-length (run .answers)), rw e)
+told-all ended size run e = (rw e (take-length (run .outcomes)), rw e)
 
 ended-waits : (size : ℕ) (run : Run) → waits true size run ≡ false
 unfolding waits waitsFor
@@ -60,14 +61,14 @@ pub told-counted : (ended : Bool) (size : ℕ) (run : Run) → length (told ende
 unfolding told toldCount countTold
 told-counted ended size run =
     on (waits ended size run)
-    (λ e. rw e (length-take-le (length (run .answers) - 1) (run .answers) (omega arith)))
-    (λ e. rw e (length-take-le (length (run .answers)) (run .answers) (omega arith)))
+    (λ e. rw e (length-take-le (length (run .outcomes) - 1) (run .outcomes) (omega arith)))
+    (λ e. rw e (length-take-le (length (run .outcomes)) (run .outcomes) (omega arith)))
 
 -- ---- all turns
 
 pub record Told (before : ℕ) (run : Run) (t : Turn) : Type 0 where
-  pub lines : t .lines ≡ toldLines before (run .answers)
-  pub seen : t .seen ≡ seenAfter before (length (run .answers))
+  pub lines : t .lines ≡ toldLines before (run .outcomes)
+  pub seen : t .seen ≡ seenAfter before (length (run .outcomes))
   pub book : t .book ≡ run .book
 
 -- a turn that tells all
@@ -92,13 +93,13 @@ module _ (seen : ℕ) (b : Book contracts) (bytes later : List ℕ) (rest : Turn
       on (goes false (length bytes) run)
       (λ g.
       let whole = in-two b bytes later .going g in
-      let answers = told false (length bytes) run in
+      let outcomes = told false (length bytes) run in
       let behind = runOver (run .book) (drop (run .used) bytes ++ later) in
       let counted = told-counted false (length bytes) run in
       rw (whole, g)
       (record {
-        lines = ap (λ (ls : List (List ℕ)). toldLines seen answers ++ ls) (t .lines ∙ ap (λ (n : ℕ). toldLines (seenAfter seen n) (behind .answers)) (sym counted)) ∙ sym (told-on seen answers (behind .answers));
-        seen = t .seen ∙ seen-on seen (toldCount false (length bytes) run) (length (behind .answers)) ∙ ap (seenAfter seen) (ap (λ (n : ℕ). n + length (behind .answers)) (sym counted) ∙ sym (length-append answers (behind .answers)));
+        lines = ap (λ (ls : List (List ℕ)). toldLines seen outcomes ++ ls) (t .lines ∙ ap (λ (n : ℕ). toldLines (seenAfter seen n) (behind .outcomes)) (sym counted)) ∙ sym (told-on seen outcomes (behind .outcomes));
+        seen = t .seen ∙ seen-on seen (toldCount false (length bytes) run) (length (behind .outcomes)) ∙ ap (seenAfter seen) (ap (λ (n : ℕ). n + length (behind .outcomes)) (sym counted) ∙ sym (length-append outcomes (behind .outcomes)));
         book = t .book;
       }))
       (λ g.
@@ -150,5 +151,5 @@ printed-sheet first parts final h =
     (λ e.
     let t = all-told 0 opened (drop (r .length) first) parts final in
     let behind : drop (r .length) (first ++ later) ≡ drop (r .length) first ++ later = drop-append-le (r .length) first later (first-fits first e) in
-    rw (same, eq-eqb (r .answer) 0 e, behind, t .lines, t .book, t .seen, zero-add (length (runOver opened (drop (r .length) first ++ later) .answers))))
+    rw (same, eq-eqb (r .answer) 0 e, behind, t .lines, t .book, t .seen, zero-add (length (runOver opened (drop (r .length) first ++ later) .outcomes))))
     (λ n. rw (same, ne-eqb (r .answer) 0 n))

@@ -4,10 +4,11 @@ use mathlib.Core.List.{List, [], _∷_, _++_}
 use Prim.Native.Nat.{ℕ, _+_, _-_, _%_, _^_}
 use lib.ListN.{length, getD, take, drop}
 use Rattle.words.specs.Tests.{if_then_else_, _<?_, _≤?_, _=?_}
+use Rattle.words.specs.Rules.{Outcome}
 use Rattle.meaning.specs.Ledgers.{contracts}
 use Rattle.meaning.specs.Books.{Book, Setup, openedBook}
 use Rattle.meaning.specs.PackedMessages.{Reading}
-use Rattle.meaning.specs.PackedCalls.{Run}
+use Rattle.meaning.specs.PackedCalls.{Run, answersIn}
 use Rattle.meaning.specs.SheetLines.{sheetLine, messageLines, endLine, setupLine}
 use Rattle.meaning.specs.Sheet.{slots, readFirst, totalLines, runOver}
 
@@ -30,25 +31,25 @@ unfoldable pub waitsFor : Bool → ℕ → ℕ → ℕ → Bool
 waitsFor ended size used last = not ended && used <? size && last =? 19
 
 unfoldable pub waits : Bool → ℕ → Run → Bool
-waits ended size run = waitsFor ended size (run .used) (lastIn (run .answers) (length (run .answers)))
+waits ended size run = waitsFor ended size (run .used) (lastIn (answersIn (run .outcomes)) (length (run .outcomes)))
 
--- how many answers are told
+-- how many outcomes are told
 unfoldable pub countTold : Bool → ℕ → ℕ
 countTold waiting count = if waiting then count - 1 else count
 
 unfoldable pub toldCount : Bool → ℕ → Run → ℕ
-toldCount ended size run = countTold (waits ended size run) (length (run .answers))
+toldCount ended size run = countTold (waits ended size run) (length (run .outcomes))
 
-unfoldable pub told : Bool → ℕ → Run → List ℕ
-told ended size run = take (toldCount ended size run) (run .answers)
+unfoldable pub told : Bool → ℕ → Run → List Outcome
+told ended size run = take (toldCount ended size run) (run .outcomes)
 
 -- An unreadable message ends reading; so does the end of the input.
 unfoldable pub goes : Bool → ℕ → Run → Bool
 goes ended size run = not ended && (size ≤? run .used || waits ended size run)
 
--- the lines of the answers told, where so many messages were told before
-unfoldable pub toldLines : ℕ → List ℕ → List (List ℕ)
-toldLines seen answers = messageLines ((seen + 1) % 2 ^ 64) answers
+-- the lines of the outcomes told, where so many messages were told before
+unfoldable pub toldLines : ℕ → List Outcome → List (List ℕ)
+toldLines seen outcomes = messageLines ((seen + 1) % 2 ^ 64) outcomes
 
 unfoldable pub seenAfter : ℕ → ℕ → ℕ
 seenAfter seen count = (seen + count) % 2 ^ 64

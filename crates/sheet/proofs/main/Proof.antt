@@ -12,11 +12,11 @@ input-buffer-requires c κs = search needs
 large-buffer-requires : tie.Need-large-buffer-requires
 large-buffer-requires c κs = search needs
 
-places-requires : tie.Need-places-requires
-places-requires c κs = search needs
+side-table-requires : tie.Need-side-table-requires
+side-table-requires c κs = search needs
 
-places-requires-2 : tie.Need-places-requires-2
-places-requires-2 c κs = search needs
+side-table-requires-2 : tie.Need-side-table-requires-2
+side-table-requires-2 c κs = search needs
 
 slice-aggregate-read-full : tie.Need-slice-aggregate-read-full
 slice-aggregate-read-full c = search needs
@@ -39,26 +39,26 @@ slice-aggregate-print-sheet c = search needs
 slice-aggregate-print-sheet-2 : tie.Need-slice-aggregate-print-sheet-2
 slice-aggregate-print-sheet-2 c = search needs
 
-array-borrow-prefix-places1 : tie.Need-array-borrow-prefix-places1
-array-borrow-prefix-places1 c = search needs
+array-borrow-prefix-table1 : tie.Need-array-borrow-prefix-table1
+array-borrow-prefix-table1 c = search needs
 
 slice-aggregate-print-sheet-3 : tie.Need-slice-aggregate-print-sheet-3
 slice-aggregate-print-sheet-3 c =
     let asked : tie.After-lent-for = search in
-    let made : tie.After-places = search in
+    let made : tie.After-side-table = search in
     let lent = asked .lent-for in
-    let side = made .places in
+    let side = made .side-table in
     sym (length-take-le (lent .result) (side .result) (omega (arith, lent .ensures .1, side .ensures)))
 
-array-borrow-prefix-places2 : tie.Need-array-borrow-prefix-places2
-array-borrow-prefix-places2 c = search needs
+array-borrow-prefix-table2 : tie.Need-array-borrow-prefix-table2
+array-borrow-prefix-table2 c = search needs
 
 slice-aggregate-print-sheet-4 : tie.Need-slice-aggregate-print-sheet-4
 slice-aggregate-print-sheet-4 c =
     let asked : tie.After-lent-for = search in
-    let made : tie.After-places2 = search in
+    let made : tie.After-side-table2 = search in
     let lent = asked .lent-for in
-    let side = made .places2 in
+    let side = made .side-table2 in
     sym (length-take-le (lent .result) (side .result) (omega (arith, lent .ensures .1, side .ensures)))
 
 slice-aggregate-print-sheet-5 : tie.Need-slice-aggregate-print-sheet-5
@@ -76,8 +76,8 @@ main-spec =
     (tie.spec
     input-buffer-requires
     large-buffer-requires
-    places-requires
-    places-requires-2
+    side-table-requires
+    side-table-requires-2
     slice-aggregate-read-full
     read-full-requires
     array-share-prefix-bytes
@@ -85,9 +85,9 @@ main-spec =
     lent-for-requires
     slice-aggregate-print-sheet
     slice-aggregate-print-sheet-2
-    array-borrow-prefix-places1
+    array-borrow-prefix-table1
     slice-aggregate-print-sheet-3
-    array-borrow-prefix-places2
+    array-borrow-prefix-table2
     slice-aggregate-print-sheet-4
     slice-aggregate-print-sheet-5
     print-sheet-requires

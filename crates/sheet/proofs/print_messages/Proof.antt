@@ -13,12 +13,12 @@ use Rattle.sheet.proofs.print_messages.Statement.{statement}
 use Rattle.sheet.proofs.print_messages.Tie as tie
 
 abbrev Inv-loop : tie.InvT-loop
-Inv-loop bytes₀ held₀ side1₀ side2₀ out₀ answers₀ progress₀ turns₀ bytes held side1 side2 out answers progress turns =
+Inv-loop bytes₀ held₀ side1₀ side2₀ out₀ answers₀ places₀ progress₀ turns₀ bytes held side1 side2 out answers places progress turns =
     (progress .kept ≤ length bytes) × (length bytes ≡ length bytes₀) × (length held ≡ length held₀) × (length side1 ≡ length side1₀) × (length side2 ≡ length side2₀) × (length out ≡ length out₀)
-    × (2048 ≡ length answers) × (turns ≤ 18446744073709551615)
+    × (2048 ≡ length answers) × (2048 ≡ length places) × (turns ≤ 18446744073709551615)
 
 abbrev μ-loop : tie.MeasureT-loop
-μ-loop bytes₀ held₀ side1₀ side2₀ out₀ answers₀ progress₀ turns₀ bytes held side1 side2 out answers progress turns =
+μ-loop bytes₀ held₀ side1₀ side2₀ out₀ answers₀ places₀ progress₀ turns₀ bytes held side1 side2 out answers places progress turns =
     18446744073709551615 - turns
 
 -- the places that the answers look back to, each found by its type
@@ -34,13 +34,20 @@ Taken = tie.After-take-turn Inv-loop μ-loop
 input-buffer-requires : tie.Need-input-buffer-requires Inv-loop μ-loop
 input-buffer-requires c κs = search needs
 
+input-buffer-requires-2 : tie.Need-input-buffer-requires-2 Inv-loop μ-loop
+input-buffer-requires-2 c κs = search needs
+
 loop-holds : tie.Need-loop-holds Inv-loop μ-loop
 loop-holds c =
     let start : tie.Start Inv-loop μ-loop = search in
-    (start .pre, refl, refl, refl, refl, refl, c .input-buffer .ensures, omega arith)
+    let answers : tie.After-input-buffer Inv-loop μ-loop = search in
+    (start .pre, refl, refl, refl, refl, refl, answers .input-buffer .ensures, c .input-buffer2 .ensures, omega arith)
 
 slice-aggregate-take-turn : tie.Need-slice-aggregate-take-turn Inv-loop μ-loop
 slice-aggregate-take-turn c = search needs
+
+slice-aggregate-take-turn-2 : tie.Need-slice-aggregate-take-turn-2 Inv-loop μ-loop
+slice-aggregate-take-turn-2 c = search needs
 
 take-turn-requires : tie.Need-take-turn-requires Inv-loop μ-loop
 take-turn-requires c κs = search needs
@@ -68,7 +75,7 @@ loop-again c =
     let turn : Turn = search in
     let t = taken .take-turn in
     let i = turn .loop .inv in
-    (t .ensures, t .kept .1 .0 ∙ i .1, t .kept .1 .1 .0 ∙ i .2, t .kept .1 .1 .1 .0 ∙ i .3, t .kept .1 .1 .1 .1 .0 ∙ i .4, t .kept .1 .1 .1 .1 .1 .1 .0 ∙ i .5, i .6 ∙ sym (t .kept .1 .1 .1 .1 .1 .0), omega (arith, some-left on))
+    (t .ensures, t .kept .1 .0 ∙ i .1, t .kept .1 .1 .0 ∙ i .2, t .kept .1 .1 .1 .0 ∙ i .3, t .kept .1 .1 .1 .1 .0 ∙ i .4, t .kept .1 .1 .1 .1 .1 .1 .1 .0 ∙ i .5, i .6 ∙ sym (t .kept .1 .1 .1 .1 .1 .0), i .7 ∙ sym (t .kept .1 .1 .1 .1 .1 .1 .0), omega (arith, some-left on))
 
 same-length : tie.Need-same-length Inv-loop μ-loop
 same-length c =
@@ -102,7 +109,7 @@ returns c g =
     let l = turn .loop in
     by-lt (l .turns) 18446744073709551615
     (λ h. absurd (true≢false (rw (lt-ltb (l .turns) 18446744073709551615 h, g) at (ended .if1 .left))))
-    (λ h. omega (arith, h, l .inv .7))
+    (λ h. omega (arith, h, l .inv .8))
 
 pub print-messages-spec : {M : Type 1} → statement M
 print-messages-spec =
@@ -111,8 +118,10 @@ print-messages-spec =
     Inv-loop
     μ-loop
     input-buffer-requires
+    input-buffer-requires-2
     loop-holds
     slice-aggregate-take-turn
+    slice-aggregate-take-turn-2
     take-turn-requires
     add-turns
     loop-less

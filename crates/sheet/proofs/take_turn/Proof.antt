@@ -47,6 +47,9 @@ same-length-5 c = search needs
 same-length-6 : tie.Need-same-length-6
 same-length-6 c = search needs
 
+same-length-7 : tie.Need-same-length-7
+same-length-7 c = search needs
+
 returns : tie.Need-returns
 returns c =
     let left : tie.After-keep = search in
@@ -73,4 +76,5 @@ take-turn-spec =
     same-length-4
     same-length-5
     same-length-6
+    same-length-7
     returns)
