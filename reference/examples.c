@@ -1,9 +1,10 @@
 /*
- * Examples from the paper's table P1 to P13, from change requests A1 and A2
- * and from "Packed messages".
+ * Examples from the paper's table P1 to P13, from change requests A1, A2 and
+ * A3 and from "Packed messages".
  *
  *   examples      checks them; exits non-zero if one fails
  *   examples p1   writes the packed P1 story of "The sheet program"
+ *   examples a3   writes a packed story of entries at fault
  */
 #include "packing.h"
 #include "reference.h"
@@ -61,10 +62,14 @@ static enum answer send_packed(const struct notification *n, size_t bytes_expect
     CHECK(length == bytes_expected);
     CHECK(read_message(bytes, length, &read, &used) == DONE);
     CHECK(used == length);
+    accepted.place = 99;
 
     enum answer answer = notify(&book, &read.notification, &accepted);
 
     CHECK(sound_book(&book));
+    /* A3: only 10 and 11 carry a place; one entry's is 0 with these too. */
+    CHECK(accepted.place == 0
+          || (n->count > 1 && (answer == PERIODS_WRONG || answer == VOLUME_OUT_OF_RANGE)));
     return answer;
 }
 
@@ -705,7 +710,8 @@ static void wide_numbers(void)
 
 static bool is_zero(const struct application *application)
 {
-    return application->kind == 0 && application->slot == 0 && application->length == 0;
+    return application->kind == 0 && application->slot == 0 && application->place == 0
+        && application->length == 0;
 }
 
 static void all_give_1(void)
@@ -1365,7 +1371,493 @@ static void unchecked_setups(void)
     }
 }
 
-/* ---- The P1 story of "The sheet program" ---- */
+/* ---- A3: "Say which entry was at fault" ----
+ *
+ * The table's day 100 has 48 periods, 101 has 46 and 102 has 50.  The
+ * notifications below give periods 1, 2, 3 and so on, so that place 7 has
+ * period 8; then some of their entries are changed. */
+
+/* 0/1 from agent 7 for these days; entries past the 50th are not held. */
+static struct notification rising(unsigned first, unsigned last, unsigned count)
+{
+    struct notification n = {
+        .agent = 7,
+        .key = 500,
+        .reference = 1,
+        .first_day = first,
+        .last_day = last,
+        .count = count,
+    };
+
+    for (unsigned e = 0; e < count && e < MOST_ENTRIES; e++)
+        n.entry[e] = (struct entry){e + 1, 10};
+    return n;
+}
+
+static struct notification with_period(struct notification n, unsigned at, unsigned period)
+{
+    n.entry[at].period = period;
+    return n;
+}
+
+static struct notification with_volume(struct notification n, unsigned at, int32_t volume)
+{
+    n.entry[at].volume = volume;
+    return n;
+}
+
+/* Only the count is changed. */
+static struct notification with_count(struct notification n, unsigned count)
+{
+    n.count = count;
+    return n;
+}
+
+/* Two entries of these periods for day 100. */
+static struct notification two_periods(unsigned one, unsigned other)
+{
+    return with_period(with_period(rising(100, 100, 2), 0, one), 1, other);
+}
+
+static bool fits_a_packed_message(const struct notification *n)
+{
+    if (n->count > MOST_ENTRIES)
+        return false;
+    for (unsigned e = 0; e < n->count; e++)
+        if (n->entry[e].period > 63 || n->entry[e].volume < -134217728
+            || n->entry[e].volume > 134217727)
+            return false;
+    return true;
+}
+
+static struct book book_before;
+
+static bool book_is_unchanged(void)
+{
+    return memcmp(&book, &book_before, sizeof book) == 0;
+}
+
+static bool told_by_struct(const struct notification *n, enum answer answer, unsigned place)
+{
+    struct acceptance told = {ADDITIONAL, 99, 99};
+
+    if (notify(&book, n, &told) != answer || told.place != place)
+        return false;
+    return answer == DONE || (told.kind == INITIAL && told.slot == 0 && book_is_unchanged());
+}
+
+static bool told_by_bytes(const struct notification *n, enum answer answer, unsigned place)
+{
+    struct message message = {.kind = NOTIFICATION, .notification = *n};
+    struct application told = {99, 99, 99, 99};
+    uint8_t bytes[MOST_MESSAGE_BYTES];
+    size_t length = pack_message(&message, bytes);
+
+    if (apply_message(&book, bytes, length, &told) != answer || told.place != place)
+        return false;
+    if (answer == DONE)
+        return told.kind >= 1 && told.kind <= 3 && told.length == length;
+    return told.kind == 0 && told.slot == 0 && told.length == 0 && book_is_unchanged();
+}
+
+/* Whether the answer carries this place, given the struct and, where it can
+ * be packed, the bytes; a refusal gives nothing else and changes nothing.
+ * Afterwards the book is as it was. */
+static bool told(struct notification n, enum answer answer, unsigned place)
+{
+    memcpy(&book_before, &book, sizeof book);
+
+    bool right = told_by_struct(&n, answer, place);
+
+    memcpy(&book, &book_before, sizeof book);
+    if (fits_a_packed_message(&n))
+        right = told_by_bytes(&n, answer, place) && right;
+    memcpy(&book, &book_before, sizeof book);
+    return right;
+}
+
+/* Entries without a fault, as many as there can be, and none at all. */
+static void no_entry_at_fault(void)
+{
+    open_table();
+    CHECK(told(rising(101, 101, 46), DONE, 0));
+    CHECK(told(rising(100, 100, 48), DONE, 0));
+    CHECK(told(rising(102, 102, 50), DONE, 0));
+    CHECK(told(rising(101, 102, 48), DONE, 0) && told(rising(102, EVERGREEN, 48), DONE, 0));
+    CHECK(told(rising(100, 100, 0), DONE, 0) && told(rising(100, EVERGREEN, 0), DONE, 0));
+    CHECK(told(with_volume(rising(102, 102, 50), 49, 99999999), DONE, 0));
+    CHECK(told(with_volume(rising(102, 102, 50), 0, -99999999), DONE, 0));
+
+    /* "Entry places past the count ... are no part of a message". */
+    CHECK(told(with_count(with_period(rising(100, 100, 4), 3, 0), 3), DONE, 0));
+    CHECK(told(with_count(with_volume(rising(100, 100, 4), 3, 100000000), 3), DONE, 0));
+    CHECK(told(with_count(with_period(rising(100, 100, 1), 0, 49), 0), DONE, 0));
+}
+
+/* "10: a period is 0". */
+static void periods_0(void)
+{
+    open_table();
+    CHECK(told(with_period(rising(102, 102, 50), 0, 0), PERIODS_WRONG, 0));
+    CHECK(told(with_period(rising(102, 102, 50), 1, 0), PERIODS_WRONG, 1));
+    CHECK(told(with_period(rising(102, 102, 50), 7, 0), PERIODS_WRONG, 7));
+    CHECK(told(with_period(rising(102, 102, 50), 24, 0), PERIODS_WRONG, 24));
+    CHECK(told(with_period(rising(102, 102, 50), 48, 0), PERIODS_WRONG, 48));
+    CHECK(told(with_period(rising(102, 102, 50), 49, 0), PERIODS_WRONG, 49));
+    CHECK(told(with_period(rising(101, 101, 46), 45, 0), PERIODS_WRONG, 45));
+    CHECK(told(with_period(rising(100, 100, 48), 47, 0), PERIODS_WRONG, 47));
+    CHECK(told(with_period(rising(100, 102, 48), 0, 0), PERIODS_WRONG, 0));
+    CHECK(told(with_period(rising(100, 102, 48), 23, 0), PERIODS_WRONG, 23));
+    CHECK(told(with_period(rising(100, EVERGREEN, 48), 47, 0), PERIODS_WRONG, 47));
+    CHECK(told(with_period(rising(100, 100, 1), 0, 0), PERIODS_WRONG, 0));
+}
+
+/* "or too high", on this day only, with this highest period. */
+static void too_high_on_a_day(unsigned day, unsigned highest)
+{
+    unsigned last = highest - 1; /* the last entry's place */
+    struct notification n = rising(day, day, highest);
+
+    CHECK(told(with_period(n, 0, highest + 1), PERIODS_WRONG, 0));
+    CHECK(told(with_period(n, 1, highest + 1), PERIODS_WRONG, 1));
+    CHECK(told(with_period(n, 20, highest + 1), PERIODS_WRONG, 20));
+    CHECK(told(with_period(n, last, highest), DONE, 0));
+    CHECK(told(with_period(n, last, highest + 1), PERIODS_WRONG, last));
+    CHECK(told(with_period(n, last, 63), PERIODS_WRONG, last));
+    CHECK(told(with_period(rising(day, day, 1), 0, highest), DONE, 0));
+    CHECK(told(with_period(rising(day, day, 1), 0, highest + 1), PERIODS_WRONG, 0));
+    CHECK(told(with_period(rising(day, day, 3), 2, highest + 1), PERIODS_WRONG, 2));
+}
+
+static void too_high_on_single_days(void)
+{
+    open_table();
+    too_high_on_a_day(101, 46);
+    too_high_on_a_day(100, 48);
+    too_high_on_a_day(102, 50);
+
+    /* All rise, but there are more than the day has. */
+    CHECK(told(rising(101, 101, 47), PERIODS_WRONG, 46));
+    CHECK(told(rising(101, 101, 50), PERIODS_WRONG, 46));
+    CHECK(told(rising(100, 100, 49), PERIODS_WRONG, 48));
+    CHECK(told(rising(100, 100, 50), PERIODS_WRONG, 48));
+
+    /* Not cut to 6, 8 or 16 bits. */
+    CHECK(told(with_period(rising(100, 100, 9), 4, 64 + 5), PERIODS_WRONG, 4));
+    CHECK(told(with_period(rising(100, 100, 9), 4, 256 + 5), PERIODS_WRONG, 4));
+    CHECK(told(with_period(rising(100, 100, 9), 8, 65536 + 9), PERIODS_WRONG, 8));
+    CHECK(told(with_period(rising(100, 100, 9), 8, UINT32_MAX), PERIODS_WRONG, 8));
+}
+
+/* "Otherwise, evergreen included: periods 1 to 48", over short and long days
+ * too. */
+static void too_high_over_several_days(void)
+{
+    static const unsigned first_and_last[5][2] = {
+        {100, 101}, {101, 102}, {102, 103}, {99, 100}, {102, EVERGREEN},
+    };
+
+    open_table();
+    for (unsigned i = 0; i < 5; i++) {
+        struct notification n = rising(first_and_last[i][0], first_and_last[i][1], 48);
+
+        CHECK(told(n, DONE, 0));
+        CHECK(told(with_period(n, 0, 49), PERIODS_WRONG, 0));
+        CHECK(told(with_period(n, 23, 49), PERIODS_WRONG, 23));
+        CHECK(told(with_period(n, 46, 50), PERIODS_WRONG, 46));
+        CHECK(told(with_period(n, 47, 49), PERIODS_WRONG, 47));
+        CHECK(told(with_period(n, 47, 50), PERIODS_WRONG, 47));
+    }
+    CHECK(told(rising(101, 102, 49), PERIODS_WRONG, 48));
+    CHECK(told(rising(102, EVERGREEN, 50), PERIODS_WRONG, 48));
+}
+
+/* "or periods do not strictly rise": equal to the one before.  The later
+ * entry offends, so never the first. */
+static void periods_equal(void)
+{
+    open_table();
+    CHECK(told(two_periods(1, 1), PERIODS_WRONG, 1));
+    CHECK(told(two_periods(48, 48), PERIODS_WRONG, 1));
+    CHECK(told(with_period(rising(102, 102, 50), 1, 1), PERIODS_WRONG, 1));
+    CHECK(told(with_period(rising(102, 102, 50), 7, 7), PERIODS_WRONG, 7));
+    CHECK(told(with_period(rising(102, 102, 50), 24, 24), PERIODS_WRONG, 24));
+    CHECK(told(with_period(rising(102, 102, 50), 49, 49), PERIODS_WRONG, 49));
+    CHECK(told(with_period(rising(101, 101, 46), 45, 45), PERIODS_WRONG, 45));
+    CHECK(told(with_period(rising(100, 100, 48), 47, 47), PERIODS_WRONG, 47));
+    CHECK(told(with_period(rising(101, EVERGREEN, 48), 47, 47), PERIODS_WRONG, 47));
+
+    /* An entry made equal to the one after it: that one offends. */
+    CHECK(told(with_period(rising(102, 102, 50), 0, 2), PERIODS_WRONG, 1));
+    CHECK(told(with_period(rising(102, 102, 50), 24, 26), PERIODS_WRONG, 25));
+    CHECK(told(with_period(rising(102, 102, 50), 48, 50), PERIODS_WRONG, 49));
+}
+
+/* The same: below the one before. */
+static void periods_below(void)
+{
+    open_table();
+    CHECK(told(two_periods(2, 1), PERIODS_WRONG, 1));
+    CHECK(told(two_periods(48, 1), PERIODS_WRONG, 1));
+    CHECK(told(two_periods(48, 47), PERIODS_WRONG, 1));
+    CHECK(told(with_period(rising(102, 102, 50), 2, 1), PERIODS_WRONG, 2));
+    CHECK(told(with_period(rising(102, 102, 50), 7, 6), PERIODS_WRONG, 7));
+    CHECK(told(with_period(rising(102, 102, 50), 24, 1), PERIODS_WRONG, 24));
+    CHECK(told(with_period(rising(102, 102, 50), 49, 48), PERIODS_WRONG, 49));
+    CHECK(told(with_period(rising(102, 102, 50), 49, 1), PERIODS_WRONG, 49));
+    CHECK(told(with_period(rising(101, 101, 46), 45, 44), PERIODS_WRONG, 45));
+    CHECK(told(with_period(rising(100, 100, 48), 47, 1), PERIODS_WRONG, 47));
+    CHECK(told(with_period(rising(101, EVERGREEN, 48), 47, 46), PERIODS_WRONG, 47));
+
+    /* An entry put above those after it: the next one offends. */
+    CHECK(told(with_period(rising(102, 102, 49), 0, 50), PERIODS_WRONG, 1));
+    CHECK(told(with_period(rising(102, 102, 49), 24, 50), PERIODS_WRONG, 25));
+    CHECK(told(with_period(rising(102, 102, 49), 47, 50), PERIODS_WRONG, 48));
+
+    /* 1, 3, 2, 4: 4 rises again, 2 offends. */
+    CHECK(told(with_period(with_period(rising(100, 100, 4), 1, 3), 2, 2), PERIODS_WRONG, 2));
+}
+
+/* "an entry past the 50th counts as too high": the place is 50 where none of
+ * the first fifty offends under 10, however many there are. */
+static void entries_past_the_50th(void)
+{
+    static const unsigned counts[8] = {51, 52, 63, 64, 100, 128, 254, 255};
+
+    open_table();
+    for (unsigned i = 0; i < 8; i++) {
+        struct notification n = rising(102, 102, counts[i]);
+
+        CHECK(told(n, PERIODS_WRONG, 50));
+        CHECK(told(with_period(n, 0, 0), PERIODS_WRONG, 0));
+        CHECK(told(with_period(n, 0, 51), PERIODS_WRONG, 0));
+        CHECK(told(with_period(n, 1, 1), PERIODS_WRONG, 1));
+        CHECK(told(with_period(n, 24, 3), PERIODS_WRONG, 24));
+        CHECK(told(with_period(n, 49, 0), PERIODS_WRONG, 49));
+        CHECK(told(with_period(n, 49, 51), PERIODS_WRONG, 49));
+        CHECK(told(with_period(n, 49, 49), PERIODS_WRONG, 49));
+        CHECK(told(with_period(n, 49, 48), PERIODS_WRONG, 49));
+        CHECK(told(rising(101, 101, counts[i]), PERIODS_WRONG, 46));
+        CHECK(told(rising(100, 100, counts[i]), PERIODS_WRONG, 48));
+        CHECK(told(rising(101, EVERGREEN, counts[i]), PERIODS_WRONG, 48));
+
+        /* An 11 earlier makes no difference. */
+        CHECK(told(with_volume(n, 0, 100000000), PERIODS_WRONG, 50));
+        CHECK(told(with_volume(n, 3, -100000000), PERIODS_WRONG, 50));
+        CHECK(told(with_volume(n, 49, 100000000), PERIODS_WRONG, 50));
+        CHECK(told(with_volume(with_period(n, 30, 0), 3, 100000000), PERIODS_WRONG, 30));
+    }
+}
+
+/* "11: a volume out of range". */
+static void volumes_out_of_range(void)
+{
+    static const int32_t wrong[6]
+        = {100000000, -100000000, 134217727, -134217728, INT32_MAX, NOTHING_STANDS};
+
+    open_table();
+    for (unsigned i = 0; i < 6; i++) {
+        CHECK(told(with_volume(rising(102, 102, 50), 0, wrong[i]), VOLUME_OUT_OF_RANGE, 0));
+        CHECK(told(with_volume(rising(102, 102, 50), 1, wrong[i]), VOLUME_OUT_OF_RANGE, 1));
+        CHECK(told(with_volume(rising(102, 102, 50), 24, wrong[i]), VOLUME_OUT_OF_RANGE, 24));
+        CHECK(told(with_volume(rising(102, 102, 50), 49, wrong[i]), VOLUME_OUT_OF_RANGE, 49));
+        CHECK(told(with_volume(rising(101, 101, 46), 45, wrong[i]), VOLUME_OUT_OF_RANGE, 45));
+        CHECK(told(with_volume(rising(100, 100, 48), 47, wrong[i]), VOLUME_OUT_OF_RANGE, 47));
+        CHECK(told(with_volume(rising(99, EVERGREEN, 48), 9, wrong[i]), VOLUME_OUT_OF_RANGE, 9));
+        CHECK(told(with_volume(rising(100, 100, 1), 0, wrong[i]), VOLUME_OUT_OF_RANGE, 0));
+    }
+}
+
+/* The least place is told, whatever is wrong there. */
+static void several_entries_at_fault(void)
+{
+    struct notification n;
+
+    open_table();
+    n = with_period(rising(102, 102, 50), 40, 40); /* equal */
+    CHECK(told(n, PERIODS_WRONG, 40));
+    n = with_period(n, 30, 0);
+    CHECK(told(n, PERIODS_WRONG, 30));
+    n = with_period(n, 45, 51);
+    CHECK(told(n, PERIODS_WRONG, 30));
+    n = with_period(n, 12, 51);
+    CHECK(told(n, PERIODS_WRONG, 12));
+    n = with_period(n, 11, 3); /* below */
+    CHECK(told(n, PERIODS_WRONG, 11));
+    n = with_period(n, 0, 0);
+    CHECK(told(n, PERIODS_WRONG, 0));
+
+    n = with_volume(rising(102, 102, 50), 49, 100000000);
+    n = with_volume(n, 9, -100000000);
+    CHECK(told(n, VOLUME_OUT_OF_RANGE, 9));
+    n = with_volume(n, 3, 100000000);
+    CHECK(told(n, VOLUME_OUT_OF_RANGE, 3));
+    n = with_volume(n, 0, -134217728);
+    CHECK(told(n, VOLUME_OUT_OF_RANGE, 0));
+
+    /* Every entry. */
+    n = rising(102, 102, 50);
+    for (unsigned e = 0; e < 50; e++)
+        n = with_volume(n, e, 100000000);
+    CHECK(told(n, VOLUME_OUT_OF_RANGE, 0));
+    for (unsigned e = 0; e < 50; e++)
+        n = with_period(n, e, 5);
+    CHECK(told(n, PERIODS_WRONG, 1));
+}
+
+/* "10 is still decided over all entries before 11", and carries its own
+ * place. */
+static void both_10_and_11(void)
+{
+    struct notification late = with_period(rising(102, 102, 50), 49, 0);
+    struct notification middle = with_period(rising(102, 102, 50), 24, 51);
+    struct notification early = with_period(rising(102, 102, 50), 0, 0);
+    struct notification equal = with_period(rising(101, 102, 48), 20, 20);
+
+    open_table();
+    CHECK(told(with_volume(late, 0, 100000000), PERIODS_WRONG, 49));
+    CHECK(told(with_volume(late, 24, -100000000), PERIODS_WRONG, 49));
+    CHECK(told(with_volume(late, 48, 100000000), PERIODS_WRONG, 49));
+    CHECK(told(with_volume(late, 49, 100000000), PERIODS_WRONG, 49));
+    CHECK(told(with_volume(middle, 0, 100000000), PERIODS_WRONG, 24));
+    CHECK(told(with_volume(middle, 24, 100000000), PERIODS_WRONG, 24));
+    CHECK(told(with_volume(middle, 25, 100000000), PERIODS_WRONG, 24));
+    CHECK(told(with_volume(middle, 49, 100000000), PERIODS_WRONG, 24));
+    CHECK(told(with_volume(early, 0, 100000000), PERIODS_WRONG, 0));
+    CHECK(told(with_volume(early, 1, 100000000), PERIODS_WRONG, 0));
+    CHECK(told(with_volume(early, 49, 100000000), PERIODS_WRONG, 0));
+    CHECK(told(with_volume(equal, 19, 100000000), PERIODS_WRONG, 20));
+    CHECK(told(with_volume(equal, 21, 100000000), PERIODS_WRONG, 20));
+    CHECK(told(with_volume(with_volume(equal, 2, 100000000), 40, 100000000), PERIODS_WRONG, 20));
+}
+
+/* Period 0 at place 7 and a volume out of range at place 3. */
+static struct notification at_fault(void)
+{
+    return with_volume(with_period(rising(100, 100, 48), 7, 0), 3, 100000000);
+}
+
+/* The answers that come before 10 carry place 0. */
+static void answers_before_10(void)
+{
+    struct notification n;
+
+    open_table();
+    CHECK(told(at_fault(), PERIODS_WRONG, 7));
+    n = at_fault();
+    n.first_day = 103;
+    n.last_day = 103;
+    CHECK(told(n, FIRST_AFTER_BOOK, 0));
+    n.first_day = 99;
+    n.last_day = 99;
+    CHECK(told(n, LAST_BEFORE_CURRENT, 0));
+    n.first_day = 100;
+    CHECK(told(n, LAST_BEFORE_FIRST, 0));
+    n = at_fault();
+    n.originator = 1;
+    CHECK(told(n, ORIGINATOR_WRONG, 0));
+    n = at_fault();
+    n.authorisation = 2;
+    n.key = 700;
+    CHECK(told(n, NOT_IN_FORCE, 0));
+    n.key = 701;
+    CHECK(told(n, KEY_OR_AGENT_WRONG, 0));
+    n.authorisation = 3;
+    CHECK(told(n, AUTHORISATION_UNKNOWN, 0));
+    CHECK(told(with_count(n, 5), AUTHORISATION_UNKNOWN, 0)); /* 11 only */
+    CHECK(told(with_count(n, 51), AUTHORISATION_UNKNOWN, 0));
+    close_gates(48 + 46 + 50);
+    CHECK(told(at_fault(), EVERY_GATE_CLOSED, 0));
+    book.gates_closed++;
+    CHECK(told(at_fault(), NOT_A_SOUND_BOOK, 0));
+    CHECK(told(with_count(at_fault(), 255), NOT_A_SOUND_BOOK, 0));
+}
+
+/* Where this answer is due, 10 and 11 come before it with their places;
+ * without them it carries place 0. */
+static void place_before(enum answer answer, unsigned reference)
+{
+    struct notification right = rising(100, 100, 48);
+    struct notification period_and_volume = at_fault();
+    struct notification volume = with_volume(right, 3, 100000000);
+
+    right.reference = reference;
+    period_and_volume.reference = reference;
+    volume.reference = reference;
+    CHECK(told(period_and_volume, PERIODS_WRONG, 7));
+    CHECK(told(volume, VOLUME_OUT_OF_RANGE, 3));
+    CHECK(told(right, answer, 0));
+}
+
+static void answers_after_11(void)
+{
+    open_single(TYPE_ADDITIONAL, 16);
+    CHECK(send(0, 7, 0, 1, 100, 100, 1, 5) == DONE);
+    place_before(REPLACEMENT_REFUSED, 1);
+    open_single(TYPE_REPLACEMENT, 16);
+    CHECK(send(0, 7, 0, 1, 100, 100, 1, 5) == DONE);
+    place_before(ADDITIONAL_REFUSED, 2);
+    open_single(TYPE_BOTH, 1);
+    CHECK(send(0, 7, 0, 1, 100, 100, 1, 5) == DONE);
+    place_before(EVERY_SLOT_HELD, 2);
+    place_before(DONE, 1);
+}
+
+/* Whether these bytes give this answer and nothing else, no place either. */
+static bool bytes_refused(const uint8_t *bytes, size_t length, enum answer answer)
+{
+    struct application told = {99, 99, 99, 99};
+
+    return apply_message(&book, bytes, length, &told) == answer && is_zero(&told);
+}
+
+/* A notification at fault that cannot be read, more than 50 entries among
+ * them; messages of other kinds. */
+static void packed_messages_without_place(void)
+{
+    static const uint8_t gate = 0x00;
+    static const uint8_t kind_3 = 0xc0;
+    static const uint8_t nullification[4] = {0x80, 0x04, 0x01, 0x90};
+    static const uint8_t equal[4] = {0x80, 0x00, 0x01, 0x90};
+    struct message message = {.kind = NOTIFICATION, .notification = at_fault()};
+    struct application told = {99, 99, 99, 99};
+    uint8_t bytes[MOST_MESSAGE_BYTES];
+
+    open_table();
+    message.notification.count = 47; /* six bits of padding */
+    CHECK(pack_message(&message, bytes) == 212 && padding_of_message(&message) == 6);
+    CHECK(bytes_refused(bytes, 211, BYTES_END_TOO_SOON));
+    CHECK(bytes_refused(bytes, 0, BYTES_END_TOO_SOON));
+    bytes[211] |= 1;
+    CHECK(bytes_refused(bytes, 212, PADDING_BIT_SET));
+    message.notification.count = 51;
+    CHECK(pack_message(&message, bytes) == MOST_MESSAGE_BYTES);
+    CHECK(bytes_refused(bytes, MOST_MESSAGE_BYTES, MORE_THAN_50_ENTRIES));
+    CHECK(bytes_refused(&kind_3, 1, KIND_3));
+    CHECK(bytes_refused(equal, 4, ACCOUNT_WRONG));
+    CHECK(apply_message(&book, &gate, 1, &told) == DONE && told.place == 0);
+    told.place = 99;
+    CHECK(apply_message(&book, nullification, 4, &told) == DONE && told.place == 0);
+}
+
+static void which_entry_was_at_fault(void)
+{
+    no_entry_at_fault();
+    periods_0();
+    too_high_on_single_days();
+    too_high_over_several_days();
+    periods_equal();
+    periods_below();
+    entries_past_the_50th();
+    volumes_out_of_range();
+    several_entries_at_fault();
+    both_10_and_11();
+    answers_before_10();
+    answers_after_11();
+    packed_messages_without_place();
+}
+
+/* ---- The P1 story of "The sheet program", and A3's ---- */
 
 static void write_bytes(const uint8_t *bytes, size_t length)
 {
@@ -1396,10 +1888,8 @@ static void write_notification(unsigned agent, unsigned key, unsigned count, int
     write_message(&message);
 }
 
-/* "one day 100 of 48, accounts 0 and 1, one authorisation"; "agent 7 gives
- * 5000 for period 1; agent 9 the same; agent 7 with key 501; a gate; agent 9
- * replaces with 6000 for period 1 and 10 for 2". */
-static void write_p1_story(void)
+/* "one day 100 of 48, accounts 0 and 1, one authorisation". */
+static void write_p1_setup(void)
 {
     static const struct setup setup = {
         .first_day = 100,
@@ -1409,10 +1899,18 @@ static void write_p1_story(void)
         .day_code = {1},
         .authorisation = {{{7, 9}, {0, 1}, 500, 0, EVERGREEN, TYPE_BOTH}},
     };
-    struct message gate = {.kind = GATE};
     uint8_t bytes[MOST_SETUP_BYTES];
 
     write_bytes(bytes, pack_setup(&setup, bytes));
+}
+
+/* "agent 7 gives 5000 for period 1; agent 9 the same; agent 7 with key 501; a
+ * gate; agent 9 replaces with 6000 for period 1 and 10 for 2". */
+static void write_p1_story(void)
+{
+    struct message gate = {.kind = GATE};
+
+    write_p1_setup();
     write_notification(7, 500, 1, 5000, 0);
     write_notification(9, 500, 1, 5000, 0);
     write_notification(7, 501, 1, 5000, 0);
@@ -1420,12 +1918,52 @@ static void write_p1_story(void)
     write_notification(9, 500, 2, 6000, 10);
 }
 
+static void write_at_fault(struct notification n)
+{
+    struct message message = {.kind = NOTIFICATION, .notification = n};
+
+    write_message(&message);
+}
+
+/* P1's first two messages, and then entries at fault: period 0 at place 7;
+ * one entry of period 49; 10 at place 1 after an 11 at place 0; 11 at place
+ * 47; one entry with 11; an agent's wrong key with period 0; and fifty
+ * entries, two more than the day has. */
+static void write_a3_story(void)
+{
+    struct notification wrong_key = with_period(rising(100, 100, 3), 1, 0);
+
+    wrong_key.key = 501;
+    write_p1_setup();
+    write_notification(7, 500, 1, 5000, 0);
+    write_notification(9, 500, 1, 5000, 0);
+    write_at_fault(with_period(rising(100, 100, 48), 7, 0));
+    write_at_fault(with_period(rising(100, 100, 1), 0, 49));
+    write_at_fault(with_volume(two_periods(1, 1), 0, 100000000));
+    write_at_fault(with_volume(rising(100, 100, 48), 47, -100000000));
+    write_at_fault(with_volume(rising(100, 100, 1), 0, 100000000));
+    write_at_fault(wrong_key);
+    write_at_fault(rising(100, 100, 50));
+}
+
+/* Writes the story of this name; false where there is none. */
+static bool write_story(const char *name)
+{
+    bool is_a3 = strcmp(name, "a3") == 0;
+
+    if (!is_a3 && strcmp(name, "p1") != 0)
+        return false;
+    if (is_a3)
+        write_a3_story();
+    else
+        write_p1_story();
+    return true;
+}
+
 int main(int argc, char **argv)
 {
-    if (argc == 2 && strcmp(argv[1], "p1") == 0) {
-        write_p1_story();
+    if (argc == 2 && write_story(argv[1]))
         return 0;
-    }
     p1();
     p2();
     p3();
@@ -1469,6 +2007,7 @@ int main(int argc, char **argv)
     order_of_checked_setups();
     opening_checked_books();
     unchecked_setups();
+    which_entry_was_at_fault();
     printf("examples: %u checks, %u failed\n", checks, failures);
     return failures == 0 ? 0 : 1;
 }

@@ -755,30 +755,41 @@ static unsigned highest_period(const struct book *book, const struct notificatio
 }
 
 /* "10: a period is 0 or too high, or periods do not strictly rise; an entry
- * past the 50th counts as too high". */
-static bool periods_are_wrong(const struct notification *n, unsigned highest)
+ * past the 50th counts as too high".  Of two periods that do not rise the
+ * later entry offends (decided).  An entry past the 50th is not held, so it is
+ * not looked at. */
+static bool period_offends(const struct notification *n, unsigned place, unsigned highest)
 {
-    unsigned before = 0;
-
-    if (n->count > MOST_ENTRIES)
+    if (place >= MOST_ENTRIES)
         return true;
-    for (unsigned e = 0; e < n->count; e++) {
-        unsigned period = n->entry[e].period;
 
-        if (period == 0 || period > highest || period <= before)
-            return true;
-        before = period;
-    }
-    return false;
+    unsigned period = n->entry[place].period;
+
+    if (period == 0 || period > highest)
+        return true;
+    return place > 0 && period <= n->entry[place - 1].period;
 }
 
-/* "11: a volume out of range". */
-static bool a_volume_is_out_of_range(const struct notification *n)
+/* A3: "the first offending entry's place, counted from 0", under 10; the
+ * count where no entry offends.  It goes no further than the 51st. */
+static unsigned first_offending_period(const struct notification *n, unsigned highest)
 {
-    for (unsigned e = 0; e < n->count; e++)
-        if (!in_range(n->entry[e].volume))
-            return true;
-    return false;
+    unsigned place = 0;
+
+    while (place < n->count && !period_offends(n, place, highest))
+        place++;
+    return place;
+}
+
+/* The same under "11: a volume out of range".  Asked only where 10 is not
+ * given, so that every entry is held. */
+static unsigned first_offending_volume(const struct notification *n)
+{
+    unsigned place = 0;
+
+    while (place < n->count && in_range(n->entry[place].volume))
+        place++;
+    return place;
 }
 
 /* ======================================================================
@@ -974,18 +985,32 @@ static enum answer refusal_1_to_9(const struct book *book, const struct notifica
     return DONE;
 }
 
-/* The refusals 10 to 14 in their order; 10 over all entries before 11
- * (decided).  The type is that of the authorisation it is sent under
- * (decided). */
-static enum answer refusal_10_to_14(const struct book *book, const struct notification *n,
+/* The refusals 10 and 11, which carry a place; without them it stays as it
+ * is.  A3: "10 is still decided over all entries before 11." */
+static enum answer refusal_10_or_11(const struct book *book, const struct notification *n,
+                                    unsigned *place)
+{
+    unsigned offending = first_offending_period(n, highest_period(book, n));
+
+    if (offending < n->count) {
+        *place = offending;
+        return PERIODS_WRONG;
+    }
+    offending = first_offending_volume(n);
+    if (offending < n->count) {
+        *place = offending;
+        return VOLUME_OUT_OF_RANGE;
+    }
+    return DONE;
+}
+
+/* The refusals 12 to 14 in their order.  The type is that of the
+ * authorisation it is sent under (decided). */
+static enum answer refusal_12_to_14(const struct book *book, const struct notification *n,
                                     enum notification_kind kind, unsigned slot)
 {
     unsigned type = book->setup.authorisation[n->authorisation].type;
 
-    if (periods_are_wrong(n, highest_period(book, n)))
-        return PERIODS_WRONG;
-    if (a_volume_is_out_of_range(n))
-        return VOLUME_OUT_OF_RANGE;
     if (kind == REPLACEMENT && type == TYPE_ADDITIONAL)
         return REPLACEMENT_REFUSED;
     if (kind == ADDITIONAL && type == TYPE_REPLACEMENT)
@@ -1006,21 +1031,23 @@ static unsigned take_slot(struct book *book, const struct notification *n)
     return slot;
 }
 
-/* Order: "notification 1 to 14 as numbered". */
+/* Order: "notification 1 to 14 as numbered".  With a refusal the kind is
+ * INITIAL and the slot 0; the place is 0 but with 10 and 11 (A3). */
 enum answer notify(struct book *book, const struct notification *n, struct acceptance *acceptance)
 {
-    acceptance->kind = INITIAL;
-    acceptance->slot = 0;
+    *acceptance = (struct acceptance){INITIAL, 0, 0};
 
     enum answer answer = refusal_1_to_9(book, n);
 
+    if (answer == DONE)
+        answer = refusal_10_or_11(book, n, &acceptance->place);
     if (answer != DONE)
         return answer;
 
     unsigned slot = slot_holding(book, n->originator, n->reference);
     enum notification_kind kind = kind_of(book, n, slot);
 
-    answer = refusal_10_to_14(book, n, kind, slot);
+    answer = refusal_12_to_14(book, n, kind, slot);
     if (answer != DONE)
         return answer;
     if (slot == book->slots)
@@ -1096,6 +1123,7 @@ static enum answer obey(struct book *book, const struct message *message,
 
     enum answer answer = notify(book, &message->notification, &acceptance);
 
+    application->place = acceptance.place;
     if (answer == DONE) {
         application->kind = 1 + (unsigned)acceptance.kind;
         application->slot = acceptance.slot;
@@ -1105,14 +1133,16 @@ static enum answer obey(struct book *book, const struct message *message,
 
 /* Every order on a book begins with 1; so 1 before reading's numbers
  * (decided), and then what the book answers.  "A refusal leaves all tables,
- * output buffers and the clock unchanged; its other results are zero". */
+ * output buffers and the clock unchanged; its other results are zero", but for
+ * the place that the refusals 10 and 11 carry (A3); reading's refusals, a
+ * gate's and a nullification's carry none. */
 enum answer apply_message(struct book *book, const uint8_t *bytes, size_t length,
                           struct application *application)
 {
     struct message message;
     size_t used;
 
-    *application = (struct application){0, 0, 0};
+    *application = (struct application){0, 0, 0, 0};
     if (!sound_book(book))
         return NOT_A_SOUND_BOOK;
 

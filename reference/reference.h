@@ -3,13 +3,14 @@
  *
  * Everything here follows the sentences of the scope paper ("What to make
  * and its exact rules") and of change requests A1 ("Clock-change days follow
- * the local hour") and A2 ("A settlement calendar").  Names are the paper's
- * words.  A comment in quotes is a sentence of the paper, and of a request
- * where it begins with A1 or A2; "(decided)" marks a reading that was settled
- * because the paper leaves it open (README.md lists them).
+ * the local hour"), A2 ("A settlement calendar") and A3 ("Say which entry was
+ * at fault").  Names are the paper's words.  A comment in quotes is a sentence
+ * of the paper, and of a request where it begins with A1, A2 or A3;
+ * "(decided)" marks a reading that was settled because the paper leaves it
+ * open (README.md lists them).
  *
- * Numbering: accounts, authorisations and slots count from 0; periods and
- * sides from 1; days are day numbers (0 is 1 January 2000).
+ * Numbering: accounts, authorisations, slots and places of entries count from
+ * 0; periods and sides from 1; days are day numbers (0 is 1 January 2000).
  */
 #ifndef REFERENCE_H
 #define REFERENCE_H
@@ -105,6 +106,7 @@ struct entry {
     int32_t volume;
 };
 
+/* The count may say more than 50 entries; only 50 are held. */
 struct notification {
     unsigned authorisation;
     unsigned agent;
@@ -155,18 +157,24 @@ struct book {
 
 enum notification_kind { INITIAL, REPLACEMENT, ADDITIONAL };
 
-/* "The answer gives kind and slot." */
+/* "The answer gives kind and slot."  With a refusal these are INITIAL and 0.
+ * A3: "Refusals 10 and 11 are to carry the first offending entry's place,
+ * counted from 0"; with every other answer the place is 0, with 0 too
+ * (decided). */
 struct acceptance {
     enum notification_kind kind;
     unsigned slot;
+    unsigned place;
 };
 
 /* What one packed message did: of a notification its kind, 1 initial, 2
  * replacement, 3 additional, and its slot, which a gate and a nullification
- * lack; and the message's length.  All zero with a refusal. */
+ * lack; and the message's length.  All zero with a refusal, but for the place
+ * that the refusals 10 and 11 of a notification carry (A3). */
 struct application {
     unsigned kind;
     unsigned slot;
+    unsigned place;
     size_t length;
 };
 

@@ -2,7 +2,7 @@
  * The sheet program: reads a packed setup and then packed messages from
  * standard input and prints the sheet.
  *
- *   sheet        the paper's lines only
+ *   sheet        the paper's lines only, with A3's third number
  *   sheet all    then every identifier, row, mark and day figure, and what
  *                the setup is answered when it is checked (A2)
  */
@@ -51,23 +51,40 @@ static struct input read_to_end(void)
     return input;
 }
 
-static enum answer obey(const struct message *message)
+/* The place is that of notify, and 0 for a message of another kind. */
+static enum answer obey(const struct message *message, unsigned *place)
 {
-    struct acceptance acceptance;
+    struct acceptance acceptance = {INITIAL, 0, 0};
+    enum answer answer;
 
     switch (message->kind) {
     case GATE:
-        return close_gate(&book);
+        answer = close_gate(&book);
+        break;
     case NOTIFICATION:
-        return notify(&book, &message->notification, &acceptance);
+        answer = notify(&book, &message->notification, &acceptance);
+        break;
     default:
-        return nullify(&book, &message->nullification);
+        answer = nullify(&book, &message->nullification);
+        break;
     }
+    *place = acceptance.place;
+    return answer;
 }
 
-/* "m: message number from 1, answer."  "An unreadable message prints its m
- * line, counts in end and ends reading ... Input that stops between messages
- * prints no such line."  Gives the number of messages seen. */
+/* "m: message number from 1, answer."  A3: "The m line gains a third number
+ * only there", with 10 and 11; also where that place is 0 (decided). */
+static void print_message_line(unsigned long number, enum answer answer, unsigned place)
+{
+    printf("m %lu %d", number, (int)answer);
+    if (answer == PERIODS_WRONG || answer == VOLUME_OUT_OF_RANGE)
+        printf(" %u", place);
+    printf("\n");
+}
+
+/* "An unreadable message prints its m line, counts in end and ends reading
+ * ... Input that stops between messages prints no such line."  Gives the
+ * number of messages seen. */
 static unsigned long print_messages(const uint8_t *bytes, size_t length)
 {
     unsigned long seen = 0;
@@ -76,13 +93,14 @@ static unsigned long print_messages(const uint8_t *bytes, size_t length)
 
     while (readable && length > 0) {
         struct message message;
+        unsigned place = 0;
         enum answer answer = read_message(bytes, length, &message, &used);
 
         readable = answer == DONE;
         if (readable)
-            answer = obey(&message);
+            answer = obey(&message, &place);
         seen++;
-        printf("m %lu %d\n", seen, (int)answer);
+        print_message_line(seen, answer, place);
         bytes += used;
         length -= used;
     }

@@ -15,7 +15,14 @@
  * (which day is current, what is held); it never decides an answer.
  *
  * In words, a line "placed" follows an accepted notification of several days
- * for each short or long day on which change request A1 places it.
+ * for each short or long day on which change request A1 places it, and a line
+ * "fault" follows a notification for each entry at fault (change request A3):
+ * its place, counted from 0, and "zero", "too-high", "equal" or "below" (the
+ * period of the entry before) for its period, "volume" for its volume.  These
+ * lines are said of the notification as it is sent, whatever is answered.
+ *
+ * The notifications that A3 adds to a story have draws of their own.  They are
+ * refused as a rule, and so leave the rest of the story as it was.
  *
  * Answers that stories reach: 0; 2 to 14 for notifications; 2, 15 and 9 for
  * nullifications; 2 for gates; 17, 18, 19 and 22 for setups; 19 to 22 for
@@ -44,6 +51,16 @@ enum { SHEET_SLOTS = 16 };
  * ====================================================================== */
 
 static uint64_t random_state;
+static uint64_t other_state; /* of the draws for A3 while they are not in use */
+
+/* To the draws for A3, and back. */
+static void change_draws(void)
+{
+    uint64_t state = random_state;
+
+    random_state = other_state;
+    other_state = state;
+}
 
 static uint64_t draw(void)
 {
@@ -172,17 +189,63 @@ static void say_notification(const struct notification *n)
     say("\n");
 }
 
+static unsigned highest_period(const struct notification *n)
+{
+    bool in_book = n->first_day >= setup.first_day && n->first_day <= last_day_of_book(&setup);
+
+    if (n->first_day == n->last_day && in_book)
+        return day_length(&setup, n->first_day - setup.first_day);
+    return 48;
+}
+
+/* What is wrong with the period of this entry, in a word; NULL where nothing
+ * is. */
+static const char *period_fault(const struct notification *n, unsigned place)
+{
+    unsigned period = n->entry[place].period;
+
+    if (period == 0)
+        return "zero";
+    if (period > highest_period(n))
+        return "too-high";
+    if (place > 0 && period == n->entry[place - 1].period)
+        return "equal";
+    if (place > 0 && period < n->entry[place - 1].period)
+        return "below";
+    return NULL;
+}
+
+static bool is_out_of_range(int32_t volume)
+{
+    return volume < LOWEST_VOLUME || volume > HIGHEST_VOLUME;
+}
+
+/* The entries at fault, whether or not another answer comes first. */
+static void say_faults(const struct notification *n)
+{
+    for (unsigned place = 0; place < n->count; place++) {
+        const char *fault = period_fault(n, place);
+
+        if (fault != NULL)
+            say("fault %u place=%u %s\n", messages, place, fault);
+        if (is_out_of_range(n->entry[place].volume))
+            say("fault %u place=%u volume\n", messages, place);
+    }
+}
+
 static void say_message(const struct message *message)
 {
     const struct nullification *nullification = &message->nullification;
 
-    if (message->kind == GATE)
+    if (message->kind == GATE) {
         say("gate\n");
-    else if (message->kind == NOTIFICATION)
+    } else if (message->kind == NOTIFICATION) {
         say_notification(&message->notification);
-    else
+        say_faults(&message->notification);
+    } else {
         say("nullification account=%u account=%u first_day=%u\n", nullification->account[0],
             nullification->account[1], nullification->first_day);
+    }
 }
 
 static bool is_clock_change_day(unsigned day_place)
@@ -707,15 +770,6 @@ static void choose_days(struct notification *n)
     }
 }
 
-static unsigned highest_period(const struct notification *n)
-{
-    bool in_book = n->first_day >= setup.first_day && n->first_day <= last_day_of_book(&setup);
-
-    if (n->first_day == n->last_day && in_book)
-        return day_length(&setup, n->first_day - setup.first_day);
-    return 48;
-}
-
 /* The first period of the current day whose gate is open. */
 static unsigned first_open_period(void)
 {
@@ -1024,17 +1078,23 @@ static void spoil_period(struct notification *n)
     }
 }
 
-static void spoil_volume(struct notification *n)
+static int32_t choose_wrong_volume(void)
 {
     static const int32_t wrong[4] = {100000000, -100000000, 134217727, -134217728};
+    int32_t volume = wrong[below(4)];
 
+    if (chance(25))
+        volume = either_way(between(HIGHEST_VOLUME + 1, 134217727));
+    return volume;
+}
+
+static void spoil_volume(struct notification *n)
+{
     need_entries(n, 1);
 
     unsigned place = below(n->count);
 
-    n->entry[place].volume = wrong[below(4)];
-    if (chance(25))
-        n->entry[place].volume = either_way(between(HIGHEST_VOLUME + 1, 134217727));
+    n->entry[place].volume = choose_wrong_volume();
 }
 
 static void spoil(struct notification *n)
@@ -1085,6 +1145,139 @@ static void spoil_sometimes(struct notification *n)
 }
 
 /* ======================================================================
+ * Entries at fault (A3)
+ * ====================================================================== */
+
+/* The number of a long day with an open gate, where there is one. */
+static bool choose_long_day(unsigned *day)
+{
+    bool listed[MOST_DAYS];
+    bool found;
+
+    for (unsigned d = 0; d < setup.days; d++)
+        listed[d] = day_length(&setup, d) == 50 && periods_closed(d) < 50;
+    *day = setup.first_day + pick_listed(listed, setup.days, &found);
+    return found;
+}
+
+/* Only a single long day has fifty entries without a fault; where there is
+ * none the entries stay as they are. */
+static void choose_fifty_entries(struct notification *n)
+{
+    unsigned volumes = choose_volumes();
+    unsigned day;
+
+    if (!choose_long_day(&day))
+        return;
+    n->first_day = day;
+    n->last_day = day;
+    n->count = 0;
+    add_entries(n, 1, 50, 100, volumes);
+}
+
+static void choose_few_entries(struct notification *n)
+{
+    unsigned percent = between(6, 15);
+    unsigned volumes = choose_volumes();
+
+    n->count = 0;
+    add_entries(n, 1, highest_period(n), percent, volumes);
+    need_entries(n, 3);
+}
+
+/* Entries that are right, one at least: as they are, or one, or few, or
+ * fifty. */
+static void choose_entries_for_faults(struct notification *n)
+{
+    switch (WEIGHTED(28, 8, 28, 36)) {
+    case 0:
+        break;
+    case 1:
+        n->count = 0;
+        break;
+    case 2:
+        choose_few_entries(n);
+        break;
+    default:
+        choose_fifty_entries(n);
+        break;
+    }
+    need_entries(n, 1);
+}
+
+/* The first entry, the last, or one between. */
+static unsigned choose_fault_place(const struct notification *n)
+{
+    switch (WEIGHTED(26, 42, 32)) {
+    case 0:
+        return 0;
+    case 1:
+        return n->count - 1;
+    default:
+        return n->count > 2 ? between(1, n->count - 2) : below(n->count);
+    }
+}
+
+/* Below the period of the entry before: the two turned round where they rise,
+ * or a lower one.  Where there is no lower one they do not rise already. */
+static void put_below(struct entry *before, struct entry *entry)
+{
+    unsigned period = entry->period;
+
+    if (before->period < period && (before->period <= 1 || chance(50))) {
+        entry->period = before->period;
+        before->period = period;
+    } else if (before->period > 1) {
+        entry->period = between(1, before->period - 1);
+    }
+}
+
+/* The first entry has none before it. */
+static void put_period_fault(struct notification *n, unsigned place)
+{
+    struct entry *entry = &n->entry[place];
+    unsigned too_high = highest_period(n) + 1;
+
+    switch (place == 0 ? WEIGHTED(50, 50) : WEIGHTED(22, 26, 26, 26)) {
+    case 0:
+        entry->period = 0;
+        break;
+    case 1:
+        entry->period = chance(50) ? too_high : between(too_high, 63);
+        break;
+    case 2:
+        entry->period = n->entry[place - 1].period;
+        break;
+    default:
+        put_below(&n->entry[place - 1], entry);
+        break;
+    }
+}
+
+/* Mostly one, so that each can be the first; else up to four. */
+static unsigned choose_number_of_faults(void)
+{
+    return 1 + WEIGHTED(60, 20, 12, 8);
+}
+
+/* Periods only, volumes only, or both: then 10 is answered, wherever the
+ * wrong volumes stand. */
+static void put_faults(struct notification *n)
+{
+    unsigned manner = WEIGHTED(44, 28, 28);
+    unsigned periods = manner == 1 ? 0 : choose_number_of_faults();
+    unsigned volumes = manner == 0 ? 0 : choose_number_of_faults();
+
+    for (unsigned i = 0; i < periods; i++)
+        put_period_fault(n, choose_fault_place(n));
+    for (unsigned i = 0; i < volumes; i++) {
+        unsigned place = choose_fault_place(n);
+
+        n->entry[place].volume = choose_wrong_volume();
+    }
+}
+
+/* ======================================================================
  * The steps of a story
  * ====================================================================== */
 
@@ -1112,11 +1305,30 @@ static bool send_notification(const struct notification *n)
     return add_message(&message) == DONE;
 }
 
+/* "A client sends fifty entries and hears "10"" (A3), or few, or "11"; then
+ * he sends what he meant.  Seldom with another fault too, so that the order
+ * shows. */
+static void send_at_fault_first(const struct notification *meant)
+{
+    struct notification n = *meant;
+
+    change_draws();
+    if (chance(plan == FULL ? 8 : 15)) {
+        choose_entries_for_faults(&n);
+        put_faults(&n);
+        if (chance(10))
+            spoil(&n);
+        send_notification(&n);
+    }
+    change_draws();
+}
+
 static void step_notification(void)
 {
     struct notification n;
 
     choose_notification(&n);
+    send_at_fault_first(&n);
     spoil_sometimes(&n);
     if (send_notification(&n) && other_agent(&n) != n.agent && waiting_count < MOST_WAITING
         && chance(80))
@@ -1909,6 +2121,7 @@ static bool tell(int words, char **word)
     if (words < 1 || !read_number(word[0], &seed))
         return false;
     random_state = seed * UINT64_C(0xd1342543de82ef95);
+    other_state = ~random_state;
     if (words == 1) {
         tell_story();
         return true;
