@@ -23,7 +23,8 @@
  *
  * ANSWERS. 0 is done; every other number is a refusal. Each function names the numbers that can come in the order in which they are tested: the
  * first that applies is the answer. A refusal leaves every table and buffer as it was and closes no gate. Its other results are zero, except where
- * the declaration says otherwise.
+ * the declaration says otherwise: a refusal by 10 or 11 also says which entry of the notification was at fault, as a `place` counted from 0. With every
+ * other answer, 0 too, the place is 0 and says nothing.
  */
 #ifndef GHENDUFIKA_H
 #define GHENDUFIKA_H
@@ -38,7 +39,7 @@ extern "C" {
 
 /* ---- numbers */
 
-/* Answers (document 01, "Answer numbers"; 27 and 28 document 02, A2). */
+/* Answers (document 01, "Answer numbers"; 27 and 28 document 02, A2; the place of 10 and 11 document 02, A3). */
 #define GHENDUFIKA_DONE 0
 #define GHENDUFIKA_NOT_SOUND 1              /* the tables handed in are not a sound book */
 #define GHENDUFIKA_EVERY_GATE_CLOSED 2
@@ -49,8 +50,8 @@ extern "C" {
 #define GHENDUFIKA_LAST_BEFORE_FIRST 7      /* last day before first day */
 #define GHENDUFIKA_LAST_DAY_PAST 8          /* last day before the current day */
 #define GHENDUFIKA_FIRST_DAY_AFTER_BOOK 9   /* first day after the book's last day */
-#define GHENDUFIKA_PERIOD_WRONG 10          /* 0, too high, or not strictly rising; an entry past the 50th counts as too high */
-#define GHENDUFIKA_VOLUME_WRONG 11          /* a volume out of range */
+#define GHENDUFIKA_PERIOD_WRONG 10          /* 0, too high, or not above the one before; an entry past the 50th counts as too high. It has a place */
+#define GHENDUFIKA_VOLUME_WRONG 11          /* a volume out of range, and no period wrong. It has a place */
 #define GHENDUFIKA_REPLACEMENT_NOT_ALLOWED 12
 #define GHENDUFIKA_ADDITIONAL_NOT_ALLOWED 13
 #define GHENDUFIKA_NO_SLOT 14               /* identifier not held and every slot held */
@@ -225,22 +226,26 @@ typedef struct {
     ghendufika_book book; /* with one gate more closed; as it came with a refusal */
 } ghendufika_gated;
 
+/* At fault under 10 is an entry whose period is 0, too high or not above that of the entry before it, so of two that do not rise the later; and every
+ * entry past the 50th, the first of which has place GHENDUFIKA_MOST_ENTRIES. At fault under 11 is an entry whose volume is out of range. */
 typedef struct {
     uint8_t answer;
     uint8_t kind;  /* GHENDUFIKA_INITIAL, ..; 0 with a refusal */
-    uint16_t slot; /* that holds its identifier */
+    uint16_t slot; /* that holds its identifier; 0 with a refusal */
+    uint8_t place; /* of the first entry at fault, with 10 and 11 only; else 0 */
 } ghendufika_notified;
 
 typedef struct {
     uint8_t answer;
     uint8_t kind;         /* of an accepted notification: GHENDUFIKA_INITIAL, ..; else 0 */
     uint16_t slot;        /* that holds its identifier; else 0 */
+    uint8_t place;        /* of the first entry at fault, with 10 and 11 only; else 0 */
     size_t length;        /* bytes that the message takes; 0 with every refusal: ask ghendufika_message_length to go on after one */
     ghendufika_book book; /* after it; as it came with a refusal */
 } ghendufika_applied;
 
 typedef struct {
-    uint8_t answer; /* 1 where the tables are no sound book; else 0, and the messages' answers stand in the lent buffer */
+    uint8_t answer; /* 1 where the tables are no sound book; else 0, and the messages' answers and places stand in the lent buffers */
     size_t done;    /* how many of them */
     size_t used;    /* bytes of whole messages */
     ghendufika_book book;
@@ -375,19 +380,20 @@ bool ghendufika_is_sound(ghendufika_book book, const uint32_t *held, size_t slot
 /* Closes the next gate: 1, 2. */
 ghendufika_gated ghendufika_close_gate(ghendufika_book book, const uint32_t *held, size_t slots, const int32_t *side1, size_t lent1, const int32_t *side2, size_t lent2);
 
-/* A notification: 1 to 14 as numbered. */
+/* A notification: 1 to 14 as numbered. 10 is decided over all entries before 11. With a refusal kind and slot are 0; 10 and 11 have a place. */
 ghendufika_notified ghendufika_notify(ghendufika_book book, ghendufika_notification notification, uint32_t *held, size_t slots, int32_t *side1, size_t lent1, int32_t *side2, size_t lent2);
 
 /* A nullification of two accounts, in either order, from a first day on: 1, 2, 15, 9. Where nothing stands it is still 0. */
 uint8_t ghendufika_nullify(ghendufika_book book, uint32_t account, uint32_t other, uint32_t first, const uint32_t *held, size_t slots, int32_t *side1, size_t lent1, int32_t *side2, size_t lent2);
 
-/* One packed message: 1, then 19 to 22 as in reading, then what the book answers. With any refusal kind, slot and length are 0; where the message
- * was read, the next one starts ghendufika_message_length bytes on. */
+/* One packed message: 1, then 19 to 22 as in reading, then what the book answers. With any refusal kind, slot and length are 0, and 10 and 11 have a
+ * place; where the message was read, the next one starts ghendufika_message_length bytes on. */
 ghendufika_applied ghendufika_apply(ghendufika_book book, const uint8_t *bytes, size_t length, uint32_t *held, size_t slots, int32_t *side1, size_t lent1, int32_t *side2, size_t lent2);
 
-/* Packed messages one after the other, until the bytes end, one is unreadable (its answer is the last) or `answers` is full. Where the last
- * answer is 19 and more bytes may come, forget it and call again from `used` on. */
-ghendufika_applied_all ghendufika_apply_all(ghendufika_book book, const uint8_t *bytes, size_t length, uint32_t *held, size_t slots, int32_t *side1, size_t lent1, int32_t *side2, size_t lent2, uint8_t *answers, size_t room);
+/* Packed messages one after the other, until the bytes end, one is unreadable (its answer is the last) or `answers` or `places` is full, so that the
+ * lesser of their rooms counts. answers[k] and places[k] are message k's, for each k below `done`; what is past them stays. Where the last answer is
+ * 19 and more bytes may come, forget it and call again from `used` on. */
+ghendufika_applied_all ghendufika_apply_all(ghendufika_book book, const uint8_t *bytes, size_t length, uint32_t *held, size_t slots, int32_t *side1, size_t lent1, int32_t *side2, size_t lent2, uint8_t *answers, size_t room, uint8_t *places, size_t places_room);
 
 /* ---- questions of a book; they change nothing but the buffer that they fill */
 

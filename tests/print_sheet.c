@@ -1,6 +1,6 @@
 /* The sheet of document 01, and with `all` everything that its book shows, in the form of reference/sheet.c, through the proved archive.
  * `print_sheet [all] [one|run]`: messages applied one by one and totals and marks asked period by period, or messages as runs with room for 64
- * answers and a day of totals and marks at once (the default). */
+ * answers and 60 places and a day of totals and marks at once (the default). */
 #include "ghendufika.h"
 
 #include <stdio.h>
@@ -40,13 +40,22 @@ static unsigned reference_of(unsigned slot) { return (held[slot] - 1) % 65536; }
 /* Unreadable bytes end the reading. */
 static int is_unreadable(uint8_t answer) { return 19 <= answer && answer <= 22; }
 
+/* An entry at fault has a place, which is the line's third number; no other answer has one. */
+static void print_message(size_t number, uint8_t answer, uint8_t place) {
+    bool has_place = answer == GHENDUFIKA_PERIOD_WRONG || answer == GHENDUFIKA_VOLUME_WRONG;
+    if (!has_place && place != 0) give_up("a place comes with another answer than 10 and 11");
+    printf("m %zu %u", number, answer);
+    if (has_place) printf(" %u", place);
+    printf("\n");
+}
+
 static size_t apply_runs(const uint8_t *bytes, size_t length) {
-    uint8_t answers[64];
+    uint8_t answers[64], places[60];
     size_t messages = 0;
     for (size_t at = 0; at < length;) {
-        ghendufika_applied_all run = ghendufika_apply_all(book, bytes + at, length - at, TABLES, answers, sizeof answers);
+        ghendufika_applied_all run = ghendufika_apply_all(book, bytes + at, length - at, TABLES, answers, sizeof answers, places, sizeof places);
         if (run.answer != 0 || run.done == 0) give_up("a run was refused");
-        for (size_t k = 0; k < run.done; k++) printf("m %zu %u\n", ++messages, answers[k]);
+        for (size_t k = 0; k < run.done; k++) print_message(++messages, answers[k], places[k]);
         book = run.book;
         at += run.used;
         if (is_unreadable(answers[run.done - 1])) break;
@@ -58,7 +67,7 @@ static size_t apply_one_by_one(const uint8_t *bytes, size_t length) {
     size_t messages = 0;
     for (size_t at = 0; at < length;) {
         ghendufika_applied one = ghendufika_apply(book, bytes + at, length - at, TABLES);
-        printf("m %zu %u\n", ++messages, one.answer);
+        print_message(++messages, one.answer, one.place);
         book = one.book;
         size_t taken = one.answer == 0 ? one.length : ghendufika_message_length(bytes + at, length - at); /* a refusal gives no length */
         at += taken;

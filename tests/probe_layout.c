@@ -27,7 +27,7 @@ void open_packed(uint8_t *result, const uint8_t *bytes, size_t length, TABLES) _
 void close_gate(uint8_t *result, ghendufika_book book, TABLES) __asm__("ghendufika_close_gate");
 registers notify(ghendufika_book book, ghendufika_notification notification, TABLES) __asm__("ghendufika_notify");
 void apply(uint8_t *result, ghendufika_book book, const uint8_t *bytes, size_t length, TABLES) __asm__("ghendufika_apply");
-void apply_all(uint8_t *result, ghendufika_book book, const uint8_t *bytes, size_t length, TABLES, uint8_t *answers, size_t room) __asm__("ghendufika_apply_all");
+void apply_all(uint8_t *result, ghendufika_book book, const uint8_t *bytes, size_t length, TABLES, uint8_t *answers, size_t room, uint8_t *places, size_t places_room) __asm__("ghendufika_apply_all");
 registers total(ghendufika_book book, TABLES, uint32_t account, uint32_t day, uint32_t period) __asm__("ghendufika_total");
 void figures(uint8_t *result, ghendufika_book book, TABLES, uint32_t account, uint32_t day) __asm__("ghendufika_figures");
 void mark(uint8_t *result, ghendufika_book book, TABLES, uint32_t originator, uint32_t reference, uint32_t account, uint32_t day, uint32_t period) __asm__("ghendufika_mark");
@@ -337,7 +337,26 @@ static size_t gated(void) { /* gives the size of a book */
 
 /* ---- calls by messages */
 
+/* Entries at fault: by 10 where the period is 0, by 11 where the volume is too large. No place is its run's answer, or another run's place. */
+static const uint64_t at_fault[RUNS] = {10, 11, 11, 10, 11, 10}, fault_places[RUNS] = {3, 49, 17, 1, 30, 24};
+
+static ghendufika_entry entry_of(int run, unsigned place) { /* of the run's notification: periods 1 to 50, 5 kWh each, but for the entry at fault */
+    ghendufika_entry entry = {.period = (uint8_t)(place + 1), .volume = 5};
+    if (place == fault_places[run] && at_fault[run] == 10) entry.period = 0;
+    if (place == fault_places[run] && at_fault[run] == 11) entry.volume = GHENDUFIKA_MOST_VOLUME + 1;
+    return entry;
+}
+
+static ghendufika_notification wrongly_said(int run) {
+    ghendufika_notification n = said(1, 1, 5);
+    n.count = GHENDUFIKA_MOST_ENTRIES;
+    for (unsigned k = 0; k < n.count; k++) n.entries[k] = entry_of(run, k);
+    return n;
+}
+
+/* The struct is in the first register. What is past it there is nobody's, and is no value below in every run. */
 static void notified(void) {
+    enum { REGISTER = 8 };
     static const uint64_t number[RUNS] = {3, 4, 7, 4, 3, 7}, kinds[RUNS] = {1, 3, 2, 2, 2, 2}, slots[RUNS] = {0, 1, 0, 1, 1, 0};
     forget();
     open_book(100);
@@ -348,18 +367,40 @@ static void notified(void) {
         if (number[run] == 7) n.last = 99;
         keep(run, notify(book, n, LENT));
     }
-    field("notified", "answer", 0, find("answer", 0, 4, 1, number));
+    size_t answer = field("notified", "answer", 0, find("answer", 0, REGISTER, 1, number));
     for (int run = 0; run < RUNS; run++) keep(run, notify(book, said((uint16_t)(1 + slots[run]), 1, 5), LENT));
-    size_t last = find("slot", 0, 4, 2, slots);
-    field("notified", "kind", 0, find("kind", 0, 4, 1, kinds));
-    field("notified", "slot", 0, last);
-    size("notified", last + 2, 2);
+    field("notified", "kind", 0, find("kind", 0, REGISTER, 1, kinds));
+    size_t slot = field("notified", "slot", 0, find("slot", 0, REGISTER, 2, slots));
+    for (int run = 0; run < RUNS; run++) keep(run, notify(book, wrongly_said(run), LENT));
+    if (find("10 and 11", 0, REGISTER, 1, at_fault) != answer) give_up("elsewhere", "the answer with a place");
+    size_t place = field("notified", "place", 0, find("place", 0, REGISTER, 1, fault_places));
+    size("notified", slot + 2 > place + 1 ? slot + 2 : place + 1, 2);
 }
 
-static void pack_said(uint16_t reference, uint8_t count) {
+static void pack_head(uint16_t reference, unsigned count) {
     begin();
     put(2, GHENDUFIKA_NOTIFICATION), put(6, 0), put(8, 7), put(16, 500), put(6, 0), put(16, reference), put(16, book.setup.first), put(16, book.setup.first), put(6, count);
+}
+
+static void pack_said(uint16_t reference, unsigned count) {
+    pack_head(reference, count);
     for (unsigned k = 1; k <= count; k++) put(6, k), put(28, 5);
+}
+
+static void pack_wrongly_said(int run) {
+    pack_head(1, GHENDUFIKA_MOST_ENTRIES);
+    for (unsigned k = 0; k < GHENDUFIKA_MOST_ENTRIES; k++) put(6, entry_of(run, k).period), put(28, (uint64_t)entry_of(run, k).volume);
+}
+
+static size_t applied_place(size_t base) {
+    open_book(100);
+    forget();
+    for (int run = 0; run < RUNS; run++) {
+        pack_wrongly_said(run);
+        apply(results[run], book, packed, bytes(), LENT);
+    }
+    find("10 and 11", 0, base, 1, at_fault);
+    return find("place", 0, base, 1, fault_places);
 }
 
 static void applied(size_t book_size) {
@@ -373,38 +414,59 @@ static void applied(size_t book_size) {
     forget();
     for (int run = 0; run < RUNS; run++) {
         book.setup.first = (uint16_t)first[run];
-        pack_said((uint16_t)(1 + slots[run]), (uint8_t)(7 * run + 3));
+        pack_said((uint16_t)(1 + slots[run]), (unsigned)(7 * run + 3));
         lengths[run] = bytes();
         apply(results[run], book, packed, sizeof packed, LENT);
     }
-    size_t base = find("first", 0, ROOM, 2, first);
+    size_t base = find("first", 0, ROOM, 2, first), length = find("length", 0, base, 8, lengths);
     field("applied", "kind", 0, find("kind", 0, base, 1, kinds));
     field("applied", "slot", 0, find("slot", 0, base, 2, slots));
-    field("applied", "length", 0, find("length", 0, base, 8, lengths));
+    field("applied", "place", 0, applied_place(base));
+    field("applied", "length", 0, length);
     field("applied", "book", 0, base);
     size("applied", base + book_size, 8);
     size("opened_packed", base + book_size, 8); /* the same fields */
 }
 
+enum { MORE_GATES = 5 };
+
+/* Gates, one byte each, and then a notification with an entry at fault; behind it more gates, for which one of the buffers has no room. */
+static size_t pack_run(int run, size_t messages) {
+    pack_wrongly_said(run);
+    size_t length = bytes();
+    memmove(packed + messages - 1, packed, length);
+    memset(packed, 0, messages - 1);
+    memset(packed + messages - 1 + length, 0, MORE_GATES);
+    return messages - 1 + length + MORE_GATES;
+}
+
+/* Which buffer the archive takes for which, and whose room is whose: the last message's answer is in the first, its place in the second, and no more is. */
+static void buffers_hold(int run, size_t done, const uint8_t *answers, const uint8_t *places) {
+    if (answers[done - 1] != at_fault[run] || places[done - 1] != fault_places[run]) give_up("not found", "the answer and the place of a run's message");
+    for (size_t k = 0; k + 1 < done; k++)
+        if (answers[k] != 0 || places[k] != 0) give_up("not zero", "the answer or the place of a gate in a run");
+    if (answers[done] != 0xEE || places[done] != 0xEE) give_up("written", "a buffer past the run");
+}
+
 static void applied_all(size_t book_size) {
     static const uint64_t number[RUNS] = {1, 0, 1, 1, 0, 0};
     uint64_t first[RUNS], done[RUNS], used[RUNS];
-    uint8_t answers[64];
-    any_of(first, 1000, 60000), any_of(done, 2, 60);
+    uint8_t answers[64], places[64];
+    any_of(first, 1000, 60000), any_of(done, 2, 40); /* fewer gates than the first day has */
     forget();
     for (int run = 0; run < RUNS; run++) {
         book.closed = number[run] == 1 ? 1000 : 7; /* 1000: more than there are */
-        apply_all(results[run], book, packed, 0, LENT, answers, sizeof answers);
+        apply_all(results[run], book, packed, 0, LENT, answers, sizeof answers, places, sizeof places);
     }
     field("applied_all", "answer", 0, find("answer", 0, ROOM, 1, number));
     forget();
-    for (int run = 0; run < RUNS; run++) { /* gates, one byte each, and a notification of 12 bytes without entries */
+    for (int run = 0; run < RUNS; run++) {
         book.setup.first = (uint16_t)first[run], book.closed = 0;
-        pack_said(1, 0);
-        memmove(packed + done[run] - 1, packed, 12);
-        memset(packed, 0, done[run] - 1);
-        used[run] = done[run] + 11;
-        apply_all(results[run], book, packed, used[run], LENT, answers, sizeof answers);
+        size_t length = pack_run(run, done[run]);
+        used[run] = length - MORE_GATES;
+        memset(answers, 0xEE, sizeof answers), memset(places, 0xEE, sizeof places);
+        apply_all(results[run], book, packed, length, LENT, answers, run % 2 ? done[run] : sizeof answers, places, run % 2 ? sizeof places : done[run]);
+        buffers_hold(run, done[run], answers, places);
     }
     size_t base = find("first", 0, ROOM, 2, first);
     field("applied_all", "done", 0, find("done", 0, base, 8, done));

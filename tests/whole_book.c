@@ -1,5 +1,5 @@
-/* Document 01's table P1 to P13, and document 02's A1, by the whole book from C: a setup written, opened packed, messages written, read and sent as
- * structs, and what is then shown as marks, rows and totals. Every expected number is the documents', or follows from them by hand. */
+/* Document 01's table P1 to P13, and document 02's A1 and A3, by the whole book from C: a setup written, opened packed, messages written, read and sent
+ * as structs, and what is then shown as marks, rows and totals. Every expected number is the documents', or follows from them by hand. */
 #include "ghendufika.h"
 
 #include <stdio.h>
@@ -262,6 +262,169 @@ static void a1_a_single_day_is_not_placed(void) {
     expect_periods(__LINE__, 102, 50, as_numbered);
 }
 
+/* ---- document 02, A3: the first entry at fault, its place counted from 0 */
+
+enum { MOST_ENTRIES = GHENDUFIKA_MOST_ENTRIES, FIRST = 0, MIDDLE = 24, LAST = MOST_ENTRIES - 1, FIFTY_FIRST = MOST_ENTRIES };
+
+/* Periods 1, 2, 3, .. of agent 7 under authorisation 0, 5 kWh each. What is past the 50th entry has no place in the struct. */
+static ghendufika_notification in_order(unsigned first, unsigned last, unsigned count) {
+    ghendufika_notification n = {.agent = 7, .key = 500, .reference = 1, .first = (uint16_t)first, .last = (uint16_t)last, .count = (uint8_t)count};
+    for (unsigned k = 0; k < count && k < MOST_ENTRIES; k++) n.entries[k] = (ghendufika_entry){.period = (uint8_t)(k + 1), .volume = 5};
+    return n;
+}
+
+static ghendufika_notification fifty(void) { return in_order(102, 102, MOST_ENTRIES); } /* day 102 has 50 periods, so nothing is wrong with it */
+
+static ghendufika_notification with_period(ghendufika_notification n, unsigned place, unsigned period) {
+    n.entries[place].period = (uint8_t)period;
+    return n;
+}
+
+static ghendufika_notification with_volume(ghendufika_notification n, unsigned place, int32_t volume) {
+    n.entries[place].volume = volume;
+    return n;
+}
+
+/* The same packed: applied by itself, and in a run behind a gate, whose book is not kept. */
+static void expect_packed_fault(int line, ghendufika_notification n, unsigned answer, unsigned place) {
+    uint8_t bytes[1 + GHENDUFIKA_MOST_MESSAGE_BYTES] = {0x00}, answers[3] = {77, 77, 77}, places[3] = {77, 77, 77};
+    ghendufika_message m = {.kind = GHENDUFIKA_NOTIFICATION, .notification = n};
+    ghendufika_message_written w = ghendufika_write_message(m, bytes + 1, GHENDUFIKA_MOST_MESSAGE_BYTES);
+    expect(line, "writing", w.answer, 0);
+    ghendufika_applied a = ghendufika_apply(book, bytes + 1, w.length, LENT);
+    expect(line, "the packed message's answer", a.answer, answer);
+    expect(line, "the place of its entry at fault", a.place, place);
+    expect(line, "no kind, slot or length", a.kind + a.slot + (double)a.length, 0);
+    ghendufika_applied_all run = ghendufika_apply_all(book, bytes, 1 + w.length, LENT, answers, 3, places, 3);
+    expect(line, "the run's answer", run.answer, 0);
+    expect(line, "its messages", (double)run.done, 2);
+    expect(line, "the gate's answer and place", answers[0] * 256 + places[0], 0);
+    expect(line, "the message's answer in a run", answers[1], answer);
+    expect(line, "the place in a run", places[1], place);
+    expect(line, "both buffers past the run", answers[2] * 256 + places[2], 77 * 256 + 77);
+}
+
+static void expect_fault(int line, ghendufika_notification n, unsigned answer, unsigned place) {
+    ghendufika_notified by_struct = ghendufika_notify(book, n, LENT);
+    expect(line, "the answer", by_struct.answer, answer);
+    expect(line, "the place of the entry at fault", by_struct.place, place);
+    expect(line, "no kind and no slot", by_struct.kind + by_struct.slot, 0);
+    if (n.count <= MOST_ENTRIES) expect_packed_fault(line, n, answer, place);
+    for (int k = 0; k < PLACES; k++) expect(line, "nothing stands", side1[k] == GHENDUFIKA_MARK && side2[k] == GHENDUFIKA_MARK, 1);
+}
+
+#define FAULT(notification, answer, place) expect_fault(__LINE__, notification, answer, place)
+
+static void a3_each_fault_at_each_place(void) {
+    static const unsigned where[] = {FIRST, MIDDLE, LAST};
+    open_the_book();
+    for (int k = 0; k < 3; k++) {
+        unsigned place = where[k];
+        FAULT(with_period(fifty(), place, 0), 10, place);
+        FAULT(with_period(fifty(), place, 51), 10, place);
+        FAULT(with_period(fifty(), place, 63), 10, place); /* the highest of 6 bits */
+        FAULT(with_volume(fifty(), place, 100000000), 11, place);
+        FAULT(with_volume(fifty(), place, -100000000), 11, place);
+        if (place == FIRST) continue; /* nothing is before it */
+        FAULT(with_period(fifty(), place, place), 10, place); /* that of the entry before */
+        FAULT(with_period(fifty(), place, 1), 10, place);
+    }
+}
+
+static void a3_of_two_that_do_not_rise_the_later(void) {
+    open_the_book();
+    FAULT(with_period(fifty(), 11, 13), 10, 12); /* .. 10, 11, 13, 13, 14: the 13 that was there before is the later one */
+    FAULT(with_period(fifty(), 11, 50), 10, 12); /* .. 10, 11, 50, 13 */
+    FAULT(with_period(fifty(), 0, 50), 10, 1);
+    FAULT(with_period(with_period(in_order(100, 100, 5), 1, 14), 2, 12), 10, 2); /* 1, 14, 12, 4, 5: the 4 and the 5 are no first */
+}
+
+static void a3_an_entry_past_the_50th(void) {
+    open_the_book();
+    FAULT(in_order(102, 102, 51), 10, FIFTY_FIRST);
+    FAULT(in_order(102, 102, 255), 10, FIFTY_FIRST);
+    FAULT(with_volume(in_order(102, 102, 51), 3, 100000000), 10, FIFTY_FIRST); /* 10 over all entries before 11 */
+    FAULT(with_period(in_order(102, 102, 51), LAST, 0), 10, LAST);
+    FAULT(in_order(100, 100, 51), 10, 48); /* 49 on a day of 48 is before it */
+}
+
+static void a3_the_highest_period(void) {
+    open_the_book();
+    FAULT(in_order(101, 101, 47), 10, 46);
+    FAULT(in_order(100, 100, 50), 10, 48);
+    FAULT(in_order(101, 102, 49), 10, 48);
+    FAULT(in_order(100, GHENDUFIKA_EVERGREEN, 50), 10, 48);
+}
+
+static void a3_several_at_once(void) {
+    open_the_book();
+    FAULT(with_period(with_period(fifty(), 9, 0), 5, 0), 10, 5);
+    FAULT(with_period(with_period(fifty(), 9, 0), 5, 51), 10, 5);
+    FAULT(with_volume(with_volume(fifty(), 30, 100000000), 4, -100000000), 11, 4);
+    FAULT(with_period(with_volume(fifty(), 2, 100000000), 40, 0), 10, 40); /* 10 over all entries before 11 */
+    FAULT(with_period(with_volume(fifty(), FIRST, 100000000), LAST, 51), 10, LAST);
+    FAULT(with_period(with_volume(fifty(), 40, 100000000), 2, 0), 10, 2);
+    FAULT(with_period(with_volume(fifty(), 7, 100000000), 7, 0), 10, 7);
+}
+
+static void a3_no_other_answer_has_a_place(void) {
+    open_the_book();
+    ghendufika_notification wrong = with_volume(with_period(fifty(), 40, 0), 2, 100000000), n = wrong;
+    n.authorisation = 3;
+    FAULT(n, 3, 0);
+    n = wrong, n.key = 501;
+    FAULT(n, 4, 0);
+    n = wrong, n.last = 101;
+    FAULT(n, 7, 0);
+    n = wrong, n.first = n.last = 103;
+    FAULT(n, 9, 0);
+    ghendufika_book no_book = book;
+    no_book.closed = 145; /* one more than 48 + 46 + 50 */
+    EXPECT("no sound book", ghendufika_notify(no_book, wrong, LENT).answer, 1);
+    EXPECT("its place", ghendufika_notify(no_book, wrong, LENT).place, 0);
+    ghendufika_notified done = ghendufika_notify(book, fifty(), LENT);
+    EXPECT("accepted", done.answer, 0);
+    EXPECT("initial", done.kind, GHENDUFIKA_INITIAL);
+    EXPECT("no place", done.place, 0);
+}
+
+/* A message with an entry at fault, a gate, another such message: with room in both buffers for so many, as many are done. */
+static void expect_run(int line, size_t room, size_t places_room, size_t done) {
+    static const uint8_t expected[2][3] = {{10, 0, 11}, {MIDDLE, 0, LAST}};
+    uint8_t bytes[2 * GHENDUFIKA_MOST_MESSAGE_BYTES + 1] = {0}, answers[4] = {77, 77, 77, 77}, places[4] = {77, 77, 77, 77};
+    ghendufika_message m = {.kind = GHENDUFIKA_NOTIFICATION, .notification = with_period(fifty(), MIDDLE, 0)};
+    size_t one = ghendufika_write_message(m, bytes, GHENDUFIKA_MOST_MESSAGE_BYTES).length;
+    m.notification = with_volume(fifty(), LAST, -100000000);
+    ghendufika_write_message(m, bytes + one + 1, GHENDUFIKA_MOST_MESSAGE_BYTES);
+    ghendufika_applied_all run = ghendufika_apply_all(book, bytes, sizeof bytes, LENT, answers, room, places, places_room);
+    expect(line, "the run's answer", run.answer, 0);
+    expect(line, "its messages", (double)run.done, (double)done);
+    expect(line, "its bytes", (double)run.used, (double)(done < 2 ? done * one : 1 + (done - 1) * one));
+    for (size_t k = 0; k < 4; k++) {
+        expect(line, "an answer, or what was there", answers[k], k < done ? expected[0][k] : 77);
+        expect(line, "a place, or what was there", places[k], k < done ? expected[1][k] : 77);
+    }
+}
+
+static void a3_the_lesser_room_ends_a_run(void) {
+    open_the_book();
+    for (size_t room = 0; room <= 4; room++)
+        for (size_t places_room = 0; places_room <= 4; places_room++) {
+            size_t lesser = room < places_room ? room : places_room;
+            expect_run(__LINE__, room, places_room, lesser < 3 ? lesser : 3);
+        }
+}
+
+static void a3_a_refused_run_leaves_both_buffers(void) {
+    uint8_t gate = 0x00, answers[1] = {77}, places[1] = {77};
+    open_the_book();
+    book.closed = 145; /* one more than there are */
+    ghendufika_applied_all run = ghendufika_apply_all(book, &gate, 1, LENT, answers, 1, places, 1);
+    EXPECT("the run", run.answer, 1);
+    EXPECT("nothing done", run.done + run.used, 0);
+    EXPECT("both buffers", answers[0] * 256 + places[0], 77 * 256 + 77);
+}
+
 static void p12_to_p13_nullified(void) {
     const uint8_t p13[4] = {0x80, 0x04, 0x01, 0x90};
     uint8_t bytes[4];
@@ -398,6 +561,7 @@ static void expect_applied(int line, ghendufika_book to, const uint8_t *bytes, s
     expect(line, "the answer to a packed message", a.answer, answer);
     expect(line, "its kind", a.kind, kind);
     expect(line, "its slot", a.slot, slot);
+    expect(line, "no place", a.place, 0); /* none of these is refused by 10 or 11 */
     expect(line, "its length", (double)a.length, (double)length);
     expect(line, "gates closed", a.book.closed, closed);
     expect(line, "the setup stays", a.book.setup.first == to.setup.first && a.book.setup.days == to.setup.days, 1);
@@ -501,6 +665,14 @@ int main(void) {
     a1_a_spring_day();
     a1_an_autumn_day();
     a1_a_single_day_is_not_placed();
+    a3_each_fault_at_each_place();
+    a3_of_two_that_do_not_rise_the_later();
+    a3_an_entry_past_the_50th();
+    a3_the_highest_period();
+    a3_several_at_once();
+    a3_no_other_answer_has_a_place();
+    a3_the_lesser_room_ends_a_run();
+    a3_a_refused_run_leaves_both_buffers();
     sizes_and_fields();
     a_setup_by_hand();
     refused_openings_leave_the_tables();
