@@ -4,10 +4,10 @@
  * refused or could not be read stands in both, and in the exit status: 0 where all the story has is shown, 1 where a message is missing, 2 where
  * nothing is shown. The file then says why, so that no older picture is believed. */
 #include "picture.h"
+#include "refusals.h"
 
 #include <errno.h>
 #include <stdio.h>
-#include <stdlib.h>
 #include <string.h>
 
 /* ---- the report */
@@ -107,6 +107,6 @@ int main(int argc, char **argv) {
     }
     see(argv, &told, &seen);
     int status = show(argv[4], &seen);
-    free(told.answers);
+    forget_story(&told);
     return leave("bars", status);
 }

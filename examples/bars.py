@@ -8,12 +8,15 @@ import itertools
 import sys
 from ctypes import c_double, c_uint8
 
-from ghendufika import ALL_SHOWN, NOT_ALL_SHOWN, PLACES_A_DAY, SLOTS, WORDS, Trouble, days_of, leave, lend, number, read
+from ghendufika import (ALL_SHOWN, MOST_MESSAGE_BYTES, MOST_VOLUME, NOT_ALL_SHOWN, PERIOD_WRONG, PLACES_A_DAY, SLOTS, VOLUME_WRONG, WORDS, Trouble, days_of,
+                        leave, lend, number, read)
 
 MARK = -(2**31)
 ONE_SIDE, MATCHED, DIFFERENT = 1, 2, 3  # the cases of ghendufika_day_marks; 0 is blank
 NOT_IN_THE_PAIR = 15
-FUNCTIONS = "read_setup", "open", "apply_all", "figures", "day_marks"
+FIRST_DAY, LAST_DAY, COUNT, PERIOD, VOLUME = 6, 7, 8, 100, 200  # fields of ghendufika_message_field; the last two are those of entry 0
+PERIODS_OVER_SEVERAL_DAYS = 48
+FUNCTIONS = "message_length", "message_field", "read_setup", "open", "apply_all", "figures", "day_marks"
 
 
 class Story:
@@ -23,15 +26,29 @@ class Story:
         self.library = library
         self.tables = self.held, _, self.side1, lent, self.side2, _ = lend(days_of(packed))
         read = library.ghendufika_read_setup(packed, len(packed), SLOTS, lent, lent)
-        self.refusal, self.answers, self.unread = read.answer, [], 0
+        self.refusal, self.answers, self.entries_at_fault, self.messages, self.unread = read.answer, [], [], [], 0
         if self.refusal == 0:
             self.book = library.ghendufika_open(read.setup, *self.tables).book
             self.apply(packed[read.length:])
 
     def apply(self, messages):
-        answers = (c_uint8 * (len(messages) + 1))()
-        applied = self.library.ghendufika_apply_all(self.book, messages, len(messages), *self.tables, answers, len(answers))
-        self.book, self.answers, self.unread = applied.book, answers[: applied.done], len(messages) - applied.used
+        answers, places = (c_uint8 * (len(messages) + 1))(), (c_uint8 * (len(messages) + 1))()
+        applied = self.library.ghendufika_apply_all(self.book, messages, len(messages), *self.tables, answers, len(answers), places, len(places))
+        self.book, self.answers, self.entries_at_fault, self.unread = applied.book, answers[: applied.done], places[: applied.done], len(messages) - applied.used
+        self.messages = list(self.take_apart(messages))
+
+    def take_apart(self, messages):
+        """The bytes of each message that was answered; of an unreadable one, which is the last, none."""
+        start = 0
+        for _ in self.answers:
+            front = messages[start:start + MOST_MESSAGE_BYTES]
+            length = self.library.ghendufika_message_length(front, len(front))
+            yield front[:length]
+            start += length
+
+    def field(self, message, field):
+        packed = self.messages[message]
+        return self.library.ghendufika_message_field(packed, len(packed), field)
 
     def is_cut_short(self):
         return bool(self.answers) and 19 <= self.answers[-1] <= 22
@@ -90,15 +107,39 @@ def signed_mwh(mwh):
     return "nothing" if mwh is None else "0.000" if mwh == 0 else f"{mwh:+.3f}"
 
 
+def wrong_period(story, message, entry):
+    """Which entry it is, is the book's word; how its period is wrong is seen: it is 0, or not above the one before, and else too high for its days."""
+    period, before = story.field(message, PERIOD + entry), story.field(message, PERIOD + entry - 1) if entry > 0 else 0
+    first, last = story.field(message, FIRST_DAY), story.field(message, LAST_DAY)
+    if period == 0:
+        return "period 0, and the first is 1"
+    if period <= before:
+        return f"period {period} after period {before}"
+    if first == last:
+        return f"period {period} on a day of {story.periods_on(first)}"
+    return f"period {period}, and over several days the last is {PERIODS_OVER_SEVERAL_DAYS}"
+
+
+def reason(story, message):
+    """The number that refused a message and its words; where one entry was at fault, which it was, counted from 1, and what it says."""
+    answer, entry = story.answers[message], story.entries_at_fault[message]
+    if answer not in (PERIOD_WRONG, VOLUME_WRONG):
+        return f"{answer}: {WORDS[answer]}"
+    wrong = wrong_period(story, message, entry) if answer == PERIOD_WRONG else (
+        f"{story.field(message, VOLUME + entry)} kWh, and the most is {MOST_VOLUME} either way")
+    return f"{answer}, entry {entry + 1} of {story.field(message, COUNT)}: {wrong}"
+
+
 def refusals(story):
-    """Which messages are missing: a line for each row of them that one number refused."""
+    """Which messages are missing: a line for each row of them that were refused for the same reason, word for word."""
     first = 0
-    for answer, group in itertools.groupby(story.answers):
-        last = first + len(list(group))
+    for why, row in itertools.groupby(range(len(story.answers)), lambda message: reason(story, message)):
+        last = first + len(list(row))
+        answer = story.answers[first]
         if answer != 0:
             which = f"message {last} could not be read, by" if 19 <= answer <= 22 else (
                 f"message {last} refused by" if last == first + 1 else f"messages {first + 1} to {last} refused by")
-            yield f"{which} {answer}: {WORDS[answer]}"
+            yield f"{which} {why}"
         first = last
 
 

@@ -5,7 +5,7 @@
  * code's, but for the name of its weekday.
  * What the calendar refuses stands on standard output, with the day that it is refused for, and in the exit status: 0 where all is well, 1 where the
  * calendar refuses (27, 28), 2 where there is nothing to show. */
-#include "story.h"
+#include "refusals.h"
 
 #include <errno.h>
 #include <stdarg.h>

@@ -6,6 +6,7 @@
  * Leaves with 0 where every place that states anything matches (or our book has what the feedback has) and every message was done, 1 where not, 2
  * where there is nothing to show. */
 #include "against.h"
+#include "refusals.h"
 
 #include <inttypes.h>
 #include <stdio.h>
@@ -159,6 +160,6 @@ int main(int argc, char **argv) {
         fprintf(stderr, "check_feedback: nothing to show: %s\n", told.trouble);
     } else if (!against || read_feedback(argv[3], &said)) status = show(&told, &said);
     free(said.places);
-    free(told.answers);
+    forget_story(&told);
     return leave("check_feedback", status);
 }

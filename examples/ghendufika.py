@@ -5,12 +5,15 @@ import ctypes
 import os
 import platform
 import sys
-from ctypes import POINTER, Structure, c_double, c_int32, c_size_t, c_uint8, c_uint16, c_uint32
+from ctypes import POINTER, Structure, c_double, c_int32, c_int64, c_size_t, c_uint8, c_uint16, c_uint32
 
 SLOTS = 256  # as many as a book may have
 MOST_DAYS = 8
 PLACES_A_DAY = 50
 EVERGREEN = 65535
+MOST_VOLUME = 99999999
+MOST_MESSAGE_BYTES = 224
+PERIOD_WRONG, VOLUME_WRONG = 10, 11  # the answers that have the place of an entry
 ALL_SHOWN, NOT_ALL_SHOWN, NOTHING_SHOWN, NOT_LOADED = range(4)
 
 WORDS = (
@@ -99,12 +102,14 @@ class Proposed(Structure):
 TABLES = [POINTER(c_uint32), c_size_t, POINTER(c_int32), c_size_t, POINTER(c_int32), c_size_t]
 BYTES = [ctypes.c_char_p, c_size_t]
 FUNCTIONS = {
+    "message_length": (c_size_t, BYTES),
+    "message_field": (c_int64, BYTES + [c_uint32]),
     "read_setup": (SetupRead, BYTES + [c_size_t] * 3),
     "read_setup_checked": (SetupRead, BYTES + [c_size_t] * 3),
     "open": (Opened, [Setup] + TABLES),
     "open_checked": (Opened, [Setup] + TABLES),
     "open_packed_checked": (OpenedPacked, BYTES + TABLES),
-    "apply_all": (AppliedAll, [Book] + BYTES + TABLES + [POINTER(c_uint8), c_size_t]),
+    "apply_all": (AppliedAll, [Book] + BYTES + TABLES + [POINTER(c_uint8), c_size_t] * 2),
     "figures": (Figured, [Book] + TABLES + [c_uint32] * 2),
     "day_marks": (c_uint8, [Book] + TABLES + [c_uint32] * 4 + [POINTER(c_uint8), c_size_t] + [POINTER(c_double), c_size_t] * 2),
     "day_length": (Measured, [c_uint32]),

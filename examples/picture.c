@@ -1,5 +1,6 @@
 /* The bars of a view as an SVG file; see picture.h. Lengths are in pixels, of a picture 900 wide. */
 #include "picture.h"
+#include "refusals.h"
 
 #include <errno.h>
 #include <stdarg.h>

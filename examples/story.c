@@ -1,5 +1,5 @@
 /* Reading a story into a book; see story.h. */
-#include "story.h"
+#include "refusals.h"
 
 #include <errno.h>
 #include <stdio.h>
@@ -44,20 +44,35 @@ static void count_refused(story *told) {
     if (is_cut_short(told)) told->refused--;
 }
 
-static bool apply_messages(story *told, const uint8_t *bytes, size_t length) {
+/* A refused message has its length too, and so the next one its start; an unreadable one is the last. */
+static bool find_starts(story *told, size_t first) {
+    told->starts = malloc((told->messages + 1) * sizeof told->starts[0]);
+    if (told->starts == NULL) return false;
+    for (size_t k = 0, at = first; k < told->messages; k++) {
+        told->starts[k] = at;
+        at += ghendufika_message_length(told->packed.bytes + at, told->packed.length - at);
+    }
+    return true;
+}
+
+static bool apply_messages(story *told, size_t first) {
+    size_t length = told->packed.length - first;
     /* No message is shorter than a byte, so there is room for every answer. */
     told->answers = malloc(length + 1);
-    if (told->answers == NULL) return false;
-    ghendufika_applied_all applied = ghendufika_apply_all(told->book, bytes, length, LENT(told), told->answers, length + 1);
+    told->entries_at_fault = malloc(length + 1);
+    if (told->answers == NULL || told->entries_at_fault == NULL) return false;
+    ghendufika_applied_all applied = ghendufika_apply_all(told->book, told->packed.bytes + first, length, LENT(told), told->answers, length + 1,
+                                                          told->entries_at_fault, length + 1);
     if (applied.answer != GHENDUFIKA_DONE) return false;
     told->book = applied.book;
     told->messages = applied.done;
     told->unread = length - applied.used;
     count_refused(told);
-    return true;
+    return find_starts(told, first);
 }
 
-static bool take_in(story *told, const input *all) {
+static bool take_in(story *told) {
+    const input *all = &told->packed;
     told->lent = places_for(all);
     ghendufika_setup_read setup = ghendufika_read_setup(all->bytes, all->length, SLOTS, told->lent, told->lent);
     if (setup.answer != GHENDUFIKA_DONE) {
@@ -66,21 +81,27 @@ static bool take_in(story *told, const input *all) {
     }
     ghendufika_opened opened = ghendufika_open(setup.setup, LENT(told));
     told->book = opened.book;
-    if (opened.answer == GHENDUFIKA_DONE && apply_messages(told, all->bytes + setup.length, all->length - setup.length)) return true;
+    if (opened.answer == GHENDUFIKA_DONE && apply_messages(told, setup.length)) return true;
     snprintf(told->trouble, sizeof told->trouble, "no memory for the answers");
     return false;
 }
 
 bool read_story(const char *path, story *told) {
-    input all = {NULL, 0};
     told->trouble[0] = '\0';
-    told->answers = NULL;
+    told->packed = (input){NULL, 0};
+    told->answers = told->entries_at_fault = NULL;
+    told->starts = NULL;
     told->messages = told->refused = told->unread = 0;
-    bool is_read = read_file(path, &all);
+    bool is_read = read_file(path, &told->packed);
     if (!is_read) snprintf(told->trouble, sizeof told->trouble, "%.200s cannot be read: %s", path, strerror(errno));
-    bool is_book = is_read && take_in(told, &all);
-    free(all.bytes);
-    return is_book;
+    return is_read && take_in(told);
+}
+
+void forget_story(story *told) {
+    free(told->packed.bytes);
+    free(told->answers);
+    free(told->entries_at_fault);
+    free(told->starts);
 }
 
 bool is_cut_short(const story *told) {
@@ -89,41 +110,6 @@ bool is_cut_short(const story *told) {
 }
 
 bool is_complete(const story *told) { return told->refused == 0 && !is_cut_short(told); }
-
-void tell_missing(const story *told, char line[MOST_LINE]) {
-    int used = 0;
-    line[0] = '\0';
-    if (told->refused > 0) used = snprintf(line, MOST_LINE, "%zu of %zu messages REFUSED", told->refused, told->messages);
-    if (is_cut_short(told))
-        snprintf(line + used, MOST_LINE - (size_t)used, "%sfrom message %zu on UNREADABLE, %zu bytes missing", used > 0 ? "; " : "", told->messages, told->unread);
-}
-
-bool next_refusal(const story *told, size_t *at, char line[MOST_LINE]) {
-    while (*at < told->messages && told->answers[*at] == GHENDUFIKA_DONE) ++*at;
-    if (*at == told->messages) return false;
-    uint8_t answer = told->answers[*at];
-    size_t first = *at + 1; /* messages are numbered from 1 */
-    while (*at < told->messages && told->answers[*at] == answer) ++*at;
-    if (is_cut_short(told) && first == told->messages)
-        snprintf(line, MOST_LINE, "message %zu could not be read, by %u: %s", first, answer, words_of(answer));
-    else if (*at == first) snprintf(line, MOST_LINE, "message %zu refused by %u: %s", first, answer, words_of(answer));
-    else snprintf(line, MOST_LINE, "messages %zu to %zu refused by %u: %s", first, *at, answer, words_of(answer));
-    return true;
-}
-
-const char *words_of(uint8_t answer) {
-    static const char *const words[] = {
-        "done", "the tables handed in are not a sound book", "every gate is closed", "authorisation number unknown",
-        "key wrong, or agent is neither of its two", "authorisation not in force on the current day",
-        "originator is neither this authorisation nor an expired one of the same accounts", "last day before first day",
-        "last day before the current day", "first day after the book's last day", "a period is 0 or too high, or periods do not strictly rise",
-        "a volume out of range", "a replacement, and the type is additional", "an additional, and the type is replacement",
-        "identifier not held and every slot held", "account not in the book, not in the pair, or the two equal", "no such day number, period or side",
-        "setup counts, day code, last day or lent lengths wrong", "an authorisation row wrong", "bytes end too soon", "message kind 3",
-        "more than 50 entries", "a padding bit is 1", "a value does not fit its field, or more than 50 entries to write", "no room for the packed message",
-        "identifier not held", "an account total beyond 99,999,999,999 either way", "day or date not in 2000 to 2099", "code disagrees with the calendar"};
-    return answer < sizeof words / sizeof words[0] ? words[answer] : "unknown";
-}
 
 unsigned originator_of(const story *told, unsigned slot) { return (told->held[slot] - 1) / 65536; }
 unsigned reference_of(const story *told, unsigned slot) { return (told->held[slot] - 1) % 65536; }

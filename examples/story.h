@@ -13,23 +13,26 @@ enum { SLOTS = GHENDUFIKA_MOST_SLOTS, MOST_PLACES = SLOTS * GHENDUFIKA_MOST_DAYS
 enum { ALL_SHOWN = 0, NOT_ALL_SHOWN = 1, NOTHING_SHOWN = 2 };
 
 typedef struct {
+    uint8_t *bytes; /* to be freed */
+    size_t length;
+} input;
+
+typedef struct {
     char trouble[MOST_LINE]; /* why there is no book; empty where there is one */
     ghendufika_book book;
     uint32_t held[SLOTS];
     int32_t side1[MOST_PLACES], side2[MOST_PLACES];
-    size_t lent;      /* places of each side that the book takes of them */
-    uint8_t *answers; /* one a message */
-    size_t messages, refused; /* `refused` are those that the book refused; an unreadable last one is none of them */
-    size_t unread;    /* bytes of the message that could not be read and of all behind it */
+    size_t lent;               /* places of each side that the book takes of them */
+    input packed;              /* the setup and the messages */
+    uint8_t *answers;          /* one a message */
+    uint8_t *entries_at_fault; /* one a message: the place, from 0, of the entry for which 10 or 11 refused it; else 0 */
+    size_t *starts;            /* one a message: where it begins in `packed` */
+    size_t messages, refused;  /* `refused` are those that the book refused; an unreadable last one is none of them */
+    size_t unread;             /* bytes of the message that could not be read and of all behind it */
 } story;
 
 /* The lent tables, as the functions of the header take them. */
 #define LENT(told) (told)->held, SLOTS, (told)->side1, (told)->lent, (told)->side2, (told)->lent
-
-typedef struct {
-    uint8_t *bytes; /* to be freed */
-    size_t length;
-} input;
 
 /* All bytes of a file, or of standard input for "-". False, with errno, where they cannot be read. */
 bool read_file(const char *path, input *all);
@@ -43,21 +46,14 @@ size_t places_for(const input *all);
 /* Reads a file, or standard input for "-". False, with the trouble, where there is no book: the file cannot be read or its setup is refused. */
 bool read_story(const char *path, story *told);
 
+/* Frees what the story holds, whether it was read or not. */
+void forget_story(story *told);
+
 /* Every message was read and done. */
 bool is_complete(const story *told);
 
 /* The last message could not be read, so nothing behind it was seen. */
 bool is_cut_short(const story *told);
-
-/* How much is missing in the book: one line, for those that look no further. Of a complete story there is nothing to say. */
-void tell_missing(const story *told, char line[MOST_LINE]);
-
-/* Which they are: the line of the next messages in a row that were refused by one number, from message `at` (from 0) on, which moves behind them.
- * False where no more are refused. */
-bool next_refusal(const story *told, size_t *at, char line[MOST_LINE]);
-
-/* The documents' words for an answer number. */
-const char *words_of(uint8_t answer);
 
 /* The identifier that a slot holds. `held` has 0 for none, else one more than originator * 65536 + reference (docs/DECISIONS.md, 23). */
 unsigned originator_of(const story *told, unsigned slot);

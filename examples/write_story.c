@@ -1,5 +1,5 @@
 /* write_story NAME: the packed stories of this folder, on standard output. They are packed by the independent program's packing.c, not by the code
- * that reads them. Two have one day 100 of 48 periods, two have three days with a clock change on the second; authorisation 0 has agents 7 and 9 for
+ * that reads them. Two have one day 100 of 48 periods, three have three days with a clock change on the second; authorisation 0 has agents 7 and 9 for
  * accounts 11, the first party, and 22, the second. No account has the number of its side, so that who takes one for the other is seen. */
 #include "packing.h"
 
@@ -76,36 +76,65 @@ static void write_busy_day(void) {
     close_gates(12);
 }
 
+static void write_setup_around(unsigned day, unsigned day_code) {
+    struct setup setup = {.first_day = day - 1, .days = 3, .accounts = 23, .authorisations = 1, .day_code = {DAY_OF_48, day_code, DAY_OF_48},
+                          .authorisation = {{{7, 9}, {11, 22}, 500, 0, EVERGREEN, TYPE_BOTH}}};
+    write_setup(&setup);
+}
+
 /* A day whose clock changes between the plain day before it and the plain day after, seen from account 22. It sells at night without an end (0/1), each
  * half hour another volume, so that one sees which is dropped or given twice; it buys from 07:00 to 19:00 of all three days (0/2), periods 15 to 38 of
  * a plain day; and it sells in period 35 of the changed day alone (0/3), which is that day's own period 35. */
 static void write_clock_change(unsigned day, unsigned day_code) {
     static const struct entry night[] = {{1, -1000}, {2, -2000}, {3, -3000}, {4, -4000}, {5, -5000}, {6, -6000}, {48, -7000}};
     static const struct entry period_35[] = {{35, -5000}};
-    struct setup setup = {.first_day = day - 1, .days = 3, .accounts = 23, .authorisations = 1, .day_code = {DAY_OF_48, day_code, DAY_OF_48},
-                          .authorisation = {{{7, 9}, {11, 22}, 500, 0, EVERGREEN, TYPE_BOTH}}};
     struct entry from_7_to_19[24];
     for (unsigned k = 0; k < 24; k++) from_7_to_19[k] = (struct entry){k + 15, 4000};
-    write_setup(&setup);
+    write_setup_around(day, day_code);
     agree_days(1, day - 1, EVERGREEN, 7, night);
     agree_days(2, day - 1, day + 1, 24, from_7_to_19);
     agree_days(3, day, day, 1, period_35);
 }
 
 /* Sunday 26 March 2000, without an hour from 01:00 to 02:00. */
-static void write_spring_day(void) { write_clock_change(85, DAY_OF_46); }
+enum { SPRING_DAY = 85 };
+static void write_spring_day(void) { write_clock_change(SPRING_DAY, DAY_OF_46); }
 
 /* Sunday 29 October 2000, with two hours from 01:00 to 02:00. */
 static void write_autumn_day(void) { write_clock_change(302, DAY_OF_50); }
 
+/* What is sold in each of so many periods in a row. */
+static void sell_in_a_row(unsigned first_day, unsigned last_day, unsigned reference, unsigned first_period, unsigned count) {
+    struct entry sold[MOST_ENTRIES];
+    for (unsigned k = 0; k < count; k++) sold[k] = (struct entry){first_period + k, -5000};
+    notify_days(0, 9, 500, reference, first_day, last_day, count, sold);
+}
+
+/* Both sides notify a sale on the spring day. Then account 22's agent is refused for an entry, again and again: a plain day's 48 periods for the Sunday,
+ * which has 46; the 50 of a long day for all three days; periods counted from 0; a period behind a later one; and volumes in Wh, which he sends once more
+ * as they are. */
+static void write_wrong_entries(void) {
+    static const struct entry period_35[] = {{35, -5000}};
+    static const struct entry out_of_order[] = {{10, -5000}, {14, -5000}, {12, -5000}, {16, -5000}, {18, -5000}};
+    static const struct entry in_watt_hours[] = {{20, -60000000}, {21, -120000000}, {22, -60000000}};
+    write_setup_around(SPRING_DAY, DAY_OF_46);
+    agree_days(1, SPRING_DAY, SPRING_DAY, 1, period_35);
+    sell_in_a_row(SPRING_DAY, SPRING_DAY, 2, 1, 48);
+    sell_in_a_row(SPRING_DAY - 1, SPRING_DAY + 1, 3, 1, 50);
+    sell_in_a_row(SPRING_DAY, SPRING_DAY, 4, 0, 24);
+    notify_days(0, 9, 500, 5, SPRING_DAY, SPRING_DAY, 5, out_of_order);
+    for (int sent = 0; sent < 2; sent++) notify_days(0, 9, 500, 6, SPRING_DAY, SPRING_DAY, 3, in_watt_hours);
+}
+
 int main(int argc, char **argv) {
-    static const char use[] = "use: write_story period_35|busy_day|spring_day|autumn_day\nOne of the packed stories of examples/, on standard output.\n";
+    static const char use[] = "use: write_story period_35|busy_day|spring_day|autumn_day|wrong_entries\nOne of the packed stories of examples/, on standard output.\n";
     const char *name = argc == 2 ? argv[1] : "";
     if (strcmp(name, "--help") == 0) fputs(use, stdout);
     else if (strcmp(name, "period_35") == 0) write_period_35();
     else if (strcmp(name, "busy_day") == 0) write_busy_day();
     else if (strcmp(name, "spring_day") == 0) write_spring_day();
     else if (strcmp(name, "autumn_day") == 0) write_autumn_day();
+    else if (strcmp(name, "wrong_entries") == 0) write_wrong_entries();
     else {
         fputs(use, stderr);
         return 2;

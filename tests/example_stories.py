@@ -1,8 +1,8 @@
 """example_stories.py NAME
 
 A packed story of tests/examples on standard output, packed here by itself. Each is named after what happened to whom. All have one day 100 of 48
-periods, but for those that are to be held against the calendar; authorisation 0 has agents 7 and 9 for accounts 11, the first party, and 22, the
-second, who is our client. Volumes are kWh, plus where the first party sells.
+periods, but for the one about single entries and those that are to be held against the calendar; authorisation 0 has agents 7 and 9 for accounts 11, the
+first party, and 22, the second, who is our client. Volumes are kWh, plus where the first party sells.
 """
 import sys
 
@@ -26,14 +26,43 @@ SETUP = setup(100, 1)
 GATE = packed((2, 0))
 
 
+def listed(agent, reference, first, last, entries, key=500):
+    fields = [field for period, kwh in entries for field in ((6, period), (28, kwh))]
+    return packed((2, 1), (6, 0), (8, agent), (16, key), (6, 0), (16, reference), (16, first), (16, last), (6, len(entries)), *fields)
+
+
 def said(agent, reference, volumes, key=500):
-    entries = [field for period, kwh in sorted(volumes.items()) for field in ((6, period), (28, kwh))]
-    return packed((2, 1), (6, 0), (8, agent), (16, key), (6, 0), (16, reference), (16, 100), (16, 100), (6, len(volumes)), *entries)
+    return listed(agent, reference, 100, 100, sorted(volumes.items()), key)
 
 
 def agreed(reference, volumes):
     return said(9, reference, volumes) + said(7, reference, volumes)
 
+
+def fifty(**wrong):
+    """Entries of periods 1 to 50, 1 MWh sold in each, but for those named: entry_3=(0, -1000) is the third."""
+    return [wrong.get(f"entry_{period}", (period, -1000)) for period in range(1, 51)]
+
+
+# Day 302 has 50 periods, those beside it 48. What each message is refused for is in the test of this story.
+ENTRIES_AT_FAULT = [
+    listed(9, 1, 302, 302, fifty()),
+    listed(9, 1, 302, 302, fifty(entry_50=(51, -1000))),
+    listed(9, 1, 302, 302, fifty(entry_1=(0, -1000))),
+    listed(9, 1, 302, 302, fifty(entry_25=(0, -1000), entry_40=(0, -1000))),
+    listed(9, 1, 302, 302, fifty(entry_2=(1, -1000))),
+    listed(9, 1, 302, 302, fifty(entry_12=(50, -1000))),
+    listed(9, 1, 301, 301, fifty()),
+    listed(9, 1, 301, 303, fifty()),
+    listed(9, 1, 302, 65535, fifty()),
+    listed(9, 1, 302, 302, fifty(entry_7=(7, 100000000))),
+    listed(9, 1, 302, 302, fifty(entry_1=(1, -134217728), entry_50=(50, 134217727))),
+    listed(9, 1, 302, 302, fifty(entry_1=(1, 100000000), entry_50=(0, 5))),  # the period is refused first, wherever it is
+    listed(9, 1, 302, 302, fifty(entry_3=(0, -1000)), key=501),
+    listed(9, 1, 302, 302, [(60, 5)]) * 2 + listed(7, 2, 302, 302, [(60, 5)]),
+    listed(9, 1, 302, 302, [(60, 5), (61, 5)]),
+    listed(7, 1, 302, 302, fifty()),
+]
 
 STORIES = {
     # more contracts than the sheet program has slots for, and fewer than a book has
@@ -50,6 +79,7 @@ STORIES = {
     + said(9, 2, {1: -700, 41: -700}) + said(7, 3, {2: -300}) + GATE * 2,
     "a_day_of_refusals_and_a_cut_end": SETUP + (said(9, 1, {35: -1000}, key=501) + said(9, 1, {49: -1})) * 500 + said(9, 1, {35: -1000})[:-1],
     "nothing_said": SETUP,
+    "a_client_refused_for_one_entry_after_the_other": setup(301, 1, 2, 1) + b"".join(ENTRIES_AT_FAULT),
 }
 
 # Setups for the calendar: days 85 and 302 are the first short and the first long one, day 36524 is the last. (Setups of 4 and of 8 days have no padding.)

@@ -8,8 +8,9 @@
                                                          and day ACCOUNT_DAY.report and ACCOUNT_DAY.svg, each with NAME.status, the exit status of
                                                          its program; prints what it met, for the tally
 
-Of the story's bytes only the setup and the kinds of the messages are read, here by themselves. Only the words for answer numbers are those of examples/.
-The sheet has to be that of a book of 256 slots, as the examples have.
+Of the story's bytes only the setup, the kinds of the messages and the days and entries of those refused by 10 or 11 are read, here by themselves; which entry
+was at fault is the sheet's word. Only the words for answer numbers are those of examples/. The sheet has to be that of a book of 256 slots, as the examples
+have.
 """
 import datetime
 import itertools
@@ -22,6 +23,8 @@ sys.path.insert(0, os.path.join(os.path.dirname(os.path.abspath(__file__)), ".."
 from ghendufika import WORDS  # noqa: E402
 
 NOTHING = -(2**31)
+MOST_VOLUME = 99999999
+PERIODS_WRONG, VOLUME_WRONG = 10, 11
 CASES = {1: "one side", 2: "agreed", 3: "disagreed"}
 
 
@@ -54,6 +57,8 @@ class Story:
         rows = [[bits.take(width) for width in (8, 8, 6, 6, 16, 16, 16, 2)] for _ in range(authorisations)]
         self.pairs = [(row[2], row[3]) for row in rows]
         self.answers = [int(line[2]) for line in lines if line[0] == "m"]
+        self.places = [int(line[3]) if len(line) > 3 else None for line in lines if line[0] == "m"]
+        self.faults = {}  # of messages refused by 10 or 11, numbered from 0: the sort and the words of the entry at fault
         self.closed, self.unread = self.read_messages(data[(bits.at + 7) // 8:])
         self.identifiers = [(int(line[2]), int(line[3])) for line in lines if line[0] == "i"]
         self.rows = {tuple(map(int, line[1:5])): list(map(int, line[5:])) for line in lines if line[0] == "r"}
@@ -63,13 +68,34 @@ class Story:
     def read_messages(self, data):
         """Gates closed, and how many bytes are left where a message could not be read."""
         closed = 0
-        for answer in self.answers:
+        for k, (answer, place) in enumerate(zip(self.answers, self.places)):
             if 19 <= answer <= 22:
                 break
             kind = data[0] >> 6
             closed += kind == 0 and answer == 0
+            assert (place is not None) == (answer in (PERIODS_WRONG, VOLUME_WRONG)), f"message {k + 1}: the sheet has a third number with 10 and 11 only"
+            if place is not None:
+                self.faults[k] = self.fault(answer, place, data)
             data = data[message_length(kind, data):]
         return closed, len(data)
+
+    def fault(self, answer, place, data):
+        """The sort and the words of what is wrong with the entry that the sheet names; it has to be wrong."""
+        first, last, entries = days_and_entries(data)
+        (period, kwh), before = entries[place], entries[place - 1][0] if place else 0
+        highest = self.length(first) if first == last else 48
+        if answer == VOLUME_WRONG:
+            assert abs(kwh) > MOST_VOLUME, f"{kwh} kWh are in range"
+            sort, words = "volume-out-of-range", f"{kwh} kWh, and the most is {MOST_VOLUME} either way"
+        elif period == 0:
+            sort, words = "period-0", "period 0, and the first is 1"
+        elif period > highest:
+            sort, words = ("too-high-on-a-day", f"period {period} on a day of {highest}") if first == last else (
+                "too-high-over-days", f"period {period}, and over several days the last is {highest}")
+        else:
+            assert period <= before, f"period {period} is after period {before}"
+            sort, words = "not-rising", f"period {period} after period {before}"
+        return sort, f"entry {place + 1} of {len(entries)}: {words}"
 
     def length(self, day):
         return self.lengths[day - self.first]
@@ -104,6 +130,15 @@ def message_length(kind, data):
     return 1 if kind == 0 else 4
 
 
+def days_and_entries(data):
+    """Of a packed notification: first day, last day, and (period, kWh) of each entry."""
+    bits = Bits(data)
+    bits.take(54)
+    first, last, count = (bits.take(width) for width in (16, 16, 6))
+    entries = [(bits.take(6), bits.take(28)) for _ in range(count)]
+    return first, last, [(period, kwh - 2**28 if kwh >= 2**27 else kwh) for period, kwh in entries]
+
+
 def number(bits):
     return struct.unpack(">d", bytes.fromhex(bits))[0]
 
@@ -126,14 +161,19 @@ def missing(story):
     return "; ".join(parts)
 
 
+def reason(story, k):
+    """Why message k, from 0, was refused: the number with its words, or with the entry at fault."""
+    answer = story.answers[k]
+    return f"{answer}, {story.faults[k][1]}" if k in story.faults else f"{answer}: {WORDS[answer]}"
+
+
 def refusals(story):
-    """A line for each row of messages that one number refused."""
+    """A line for each row of messages that have the same reason."""
     lines, k = [], 0
     while k < len(story.answers):
-        answer, first = story.answers[k], k + 1
-        while k < len(story.answers) and story.answers[k] == answer:
+        answer, first, words = story.answers[k], k + 1, reason(story, k)
+        while k < len(story.answers) and reason(story, k) == words:
             k += 1
-        words = f"{answer}: {WORDS[answer]}"
         if answer >= 19:
             lines += [f"message {first} could not be read, by {words}"]
         elif answer:
@@ -350,8 +390,10 @@ def met_besides(story, day, bars, expected, drawn_together):
            "large-and-small": bool(sizes) and max(sizes) > 1000 * min(sizes), "cut-short": cut_short(story), "refused": bool(refusals(story)),
            "many-refused": len(refusals(story)) > 4, "zero": any(not mwh for _, mwh in expected),
            "together": drawn_together,
-           "zero-and-not": any(bar[3] == "disagreed" and 0 in bar[4:] for bar in bars)}
-    return [word for word, holds in met.items() if holds]
+           "zero-and-not": any(bar[3] == "disagreed" and 0 in bar[4:] for bar in bars),
+           "same-fault-again": any(line.startswith("messages") and ", entry " in line for line in refusals(story)),
+           "another-fault-of-one-number": any(story.answers[k] == story.answers[k - 1] and reason(story, k) != reason(story, k - 1) for k in story.faults if k > 0)}
+    return [word for word, holds in met.items() if holds] + sorted({sort for sort, _ in story.faults.values()})
 
 
 # ---- the bars as text

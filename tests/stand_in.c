@@ -123,25 +123,58 @@ ghendufika_proposed ghendufika_propose_codes(uint32_t first, uint32_t days) {
     return proposed;
 }
 
+/* ---- messages: of the fields those that say what was wrong with an entry */
+
+size_t ghendufika_message_length(const uint8_t *bytes, size_t length) {
+    struct message message;
+    size_t used;
+    read_message(bytes, length, &message, &used);
+    return used;
+}
+
+static int64_t entry_field(const struct notification *notification, uint32_t field) {
+    uint32_t entry = field % 100;
+    if (entry >= notification->count) return 0;
+    if (field == GHENDUFIKA_FIELD_PERIOD(entry)) return notification->entry[entry].period;
+    return field == GHENDUFIKA_FIELD_VOLUME(entry) ? notification->entry[entry].volume : 0;
+}
+
+int64_t ghendufika_message_field(const uint8_t *bytes, size_t length, uint32_t field) {
+    struct message message;
+    size_t used;
+    if (read_message(bytes, length, &message, &used) != DONE || message.kind != NOTIFICATION) return 0;
+    switch (field) {
+    case GHENDUFIKA_FIELD_FIRST_DAY: return message.notification.first_day;
+    case GHENDUFIKA_FIELD_LAST_DAY: return message.notification.last_day;
+    case GHENDUFIKA_FIELD_COUNT: return message.notification.count;
+    default: return entry_field(&message.notification, field);
+    }
+}
+
 /* ---- calls and questions */
 
-static uint8_t obey(const struct message *message) {
+/* The place of an entry at fault is a notification's alone. */
+static uint8_t obey(const struct message *message, uint8_t *place) {
     struct acceptance acceptance;
+    *place = 0;
     if (message->kind == GATE) return (uint8_t)close_gate(&standing);
-    if (message->kind == NOTIFICATION) return (uint8_t)notify(&standing, &message->notification, &acceptance);
-    return (uint8_t)nullify(&standing, &message->nullification);
+    if (message->kind == NULLIFICATION) return (uint8_t)nullify(&standing, &message->nullification);
+    uint8_t answer = (uint8_t)notify(&standing, &message->notification, &acceptance);
+    *place = (uint8_t)acceptance.place;
+    return answer;
 }
 
 ghendufika_applied_all ghendufika_apply_all(ghendufika_book book, const uint8_t *bytes, size_t length, uint32_t *held, size_t slots, int32_t *side1, size_t lent1,
-                                            int32_t *side2, size_t lent2, uint8_t *answers, size_t room) {
+                                            int32_t *side2, size_t lent2, uint8_t *answers, size_t room, uint8_t *places, size_t places_room) {
     ghendufika_applied_all all = {.book = book};
     bool readable = true;
-    while (readable && all.used < length && all.done < room) {
+    while (readable && all.used < length && all.done < room && all.done < places_room) {
         struct message message;
         size_t used;
-        uint8_t answer = (uint8_t)read_message(bytes + all.used, length - all.used, &message, &used);
+        uint8_t answer = (uint8_t)read_message(bytes + all.used, length - all.used, &message, &used), place = 0;
         readable = answer == 0;
-        answers[all.done++] = readable ? obey(&message) : answer;
+        answers[all.done] = readable ? obey(&message, &place) : answer;
+        places[all.done++] = place;
         all.used += used;
     }
     (void)slots, (void)lent1, (void)lent2;
