@@ -104,6 +104,34 @@ void try_close_gate(void) {
     if (expected == DONE && one_in(2)) adopt(&gated.book);
 }
 
+/* ---- entries at fault (document 02, A3) */
+
+/* Where the entry named lies: 0 the first, 1 one between, 2 the last, 3 past the 50th. A first one that is also the last is the first. */
+static unsigned where_in(unsigned place, unsigned count) {
+    if (place >= GHENDUFIKA_MOST_ENTRIES) return 3;
+    return place == 0 ? 0 : place + 1 == count ? 2 : 1;
+}
+
+static bool has_place(unsigned answer) { return answer == PERIODS_WRONG || answer == VOLUME_OUT_OF_RANGE; }
+
+/* Whether other entries have volumes out of range: 1 before the one named, 2 behind it, 3 both. Before it they are there with 10 alone. */
+static unsigned volumes_beside(const struct notification *told, unsigned place) {
+    unsigned beside = 0;
+    for (unsigned entry = 0; entry < told->count && entry < MOST_ENTRIES; entry++) {
+        int32_t volume = told->entry[entry].volume;
+        if (entry != place && (volume < LOWEST_VOLUME || volume > HIGHEST_VOLUME)) beside |= entry < place ? 1 : 2;
+    }
+    return beside;
+}
+
+static void check_place(unsigned place, const struct notification *told, unsigned answer, unsigned expected) {
+    must(place == expected, "the place of the entry at fault is the second program's");
+    must(has_place(answer) || place == 0, "no answer but 10 and 11 has a place");
+    if (!has_place(answer)) return;
+    note(&seen_fault, where_in(place, told->count));
+    note(&seen_volumes_beside, volumes_beside(told, place));
+}
+
 /* ---- calls by struct */
 
 /* Soundness is kept: what was accepted is a sound book again. */
@@ -127,6 +155,7 @@ void try_notify(void) {
     note(&seen_kind, notified.kind);
     must(notified.kind == (expected == DONE ? 1u + acceptance.kind : 0u), "the kind is the second program's, and 0 with a refusal");
     must(notified.slot == (expected == DONE ? acceptance.slot : 0u), "the slot is the second program's, and 0 with a refusal");
+    check_place(notified.place, &told, expected, acceptance.place);
     check_tables(notified.answer);
     if (expected != DONE) return;
     check_closed_places();
@@ -157,23 +186,38 @@ void try_nullify(void) {
 
 /* ---- packed messages */
 
-static enum answer do_by_second(const struct message *message) {
+/* What a message of a run is answered, and the place of its entry at fault, which a notification alone can have. */
+struct word { uint8_t answer, place; };
+
+static struct word by_second(enum answer answer, unsigned place) { return (struct word){(uint8_t)answer, (uint8_t)place}; }
+
+static struct word do_by_second(const struct message *message) {
     struct acceptance acceptance;
-    if (message->kind == GATE) return close_gate(&second);
-    if (message->kind == NOTIFICATION) return notify(&second, &message->notification, &acceptance);
-    return nullify(&second, &message->nullification);
+    if (message->kind == GATE) return by_second(close_gate(&second), 0);
+    if (message->kind == NULLIFICATION) return by_second(nullify(&second, &message->nullification), 0);
+    enum answer answer = notify(&second, &message->notification, &acceptance);
+    if (has_place(answer)) note(&seen_run_fault, where_in(acceptance.place, message->notification.count));
+    return by_second(answer, acceptance.place);
 }
 
 /* A message of a run: its bytes are used where the book refuses it, too. */
-static enum answer next_by_second(const uint8_t *bytes, size_t length, size_t *used) {
+static struct word next_by_second(const uint8_t *bytes, size_t length, size_t *used) {
     struct message message;
     enum answer unreadable = read_message(bytes, length, &message, used);
-    return unreadable != DONE ? unreadable : do_by_second(&message);
+    return unreadable != DONE ? by_second(unreadable, 0) : do_by_second(&message);
 }
 
 static void check_book_after(const ghendufika_book *book, bool changed) {
     must(same_setup(&book->setup, &before.book.setup), "packed messages leave the setup");
     must(book->closed == (changed ? second.gates_closed : before.book.closed), "the gates closed are the second program's, and as they came with a refusal");
+}
+
+static void check_applied_place(unsigned place, unsigned answer, unsigned expected) {
+    struct message message;
+    size_t used;
+    must(place == expected, "the place of a packed notification's entry at fault is the second program's");
+    must(has_place(answer) || place == 0, "no answer but 10 and 11 has a place");
+    if (has_place(answer) && read_message(made, asked.length, &message, &used) == DONE) note(&seen_applied_fault, where_in(place, message.notification.count));
 }
 
 void try_apply(void) {
@@ -190,6 +234,7 @@ void try_apply(void) {
     must(applied.length == application.length, "the length is the message's, and 0 with a refusal");
     must(applied.kind == application.kind, "the kind of a packed notification is the second program's, and 0 of other messages and with a refusal");
     must(applied.slot == application.slot, "the slot of a packed notification is the second program's, and 0 of other messages and with a refusal");
+    check_applied_place(applied.place, expected, application.place);
     check_book_after(&applied.book, expected == DONE);
     check_tables(applied.answer);
     if (expected != DONE) return;
@@ -198,44 +243,55 @@ void try_apply(void) {
     adopt(&applied.book);
 }
 
+enum { MOST_WORDS = 64 };
+
 /* The run of document 01's calls, by the second program; a book that is not sound refuses it as a whole. */
-static enum answer run_by_second(size_t length, size_t room, uint8_t *answers, size_t *done, size_t *used) {
-    *done = *used = 0;
-    if (!sound_book(&second)) return NOT_A_SOUND_BOOK;
-    while (*used < length && *done < room) {
+struct run { enum answer answer; size_t done, used; struct word words[MOST_WORDS]; };
+
+static void run_by_second(size_t length, size_t room, struct run *run) {
+    run->done = run->used = 0;
+    run->answer = sound_book(&second) ? DONE : NOT_A_SOUND_BOOK;
+    while (run->answer == DONE && run->used < length && run->done < room) {
         size_t one;
-        answers[*done] = (uint8_t)next_by_second(made + *used, length - *used, &one);
-        *done += 1;
-        *used += one;
+        run->words[run->done++] = next_by_second(made + run->used, length - run->used, &one);
+        run->used += one;
         if (one == 0) break;
     }
-    return DONE;
 }
 
-static void check_answers(const uint8_t *answers, const uint8_t *expected, size_t done) {
-    for (size_t k = 0; k < done; k++) note(&seen_run_answer, answers[k]);
-    must(memcmp(answers, expected, done) == 0, "the answers of a run are the second program's");
-    check_buffer(0, done);
+static void check_words(const uint8_t *answers, const uint8_t *places, const struct run *expected) {
+    for (size_t k = 0; k < expected->done; k++) {
+        note(&seen_run_answer, answers[k]);
+        must(answers[k] == expected->words[k].answer, "the answers of a run are the second program's");
+        must(places[k] == expected->words[k].place, "the places of a run are the second program's, and 0 where the answer is not 10 or 11");
+    }
+    check_buffer(0, expected->done);
+    check_buffer(1, expected->done);
+}
+
+/* Room for as many answers as places, for more or for fewer: the lesser ends the run. */
+static void some_rooms(void) {
+    asked.room[0] = one_in(3) ? below(4) : below(MOST_WORDS + 1);
+    asked.room[1] = one_in(2) ? asked.room[0] : one_in(3) ? below(4) : below(MOST_WORDS + 1);
 }
 
 void try_apply_all(void) {
-    uint8_t expected_answers[64];
-    size_t done, used;
+    struct run expected;
     lend_model();
     lend_bytes(made, some_messages_bytes(&model, made));
-    asked.room[0] = one_in(3) ? below(4) : below(sizeof expected_answers + 1);
-    uint8_t *answers = lend_buffer(0, asked.room[0]);
-    enum answer expected = run_by_second(asked.length, asked.room[0], expected_answers, &done, &used);
+    some_rooms();
+    uint8_t *answers = lend_buffer(0, asked.room[0]), *places = lend_buffer(1, asked.room[1]);
+    run_by_second(asked.length, asked.room[0] < asked.room[1] ? asked.room[0] : asked.room[1], &expected);
 
     ask("ghendufika_apply_all", SAY_TABLES | SAY_BYTES | SAY_ROOM);
-    ghendufika_applied_all run = ghendufika_apply_all(before.book, asked.bytes, asked.length, TABLES_TO_CHANGE, answers, asked.room[0]);
+    ghendufika_applied_all run = ghendufika_apply_all(before.book, asked.bytes, asked.length, TABLES_TO_CHANGE, answers, asked.room[0], places, asked.room[1]);
     note(&seen_apply_all, run.answer);
-    must(run.answer == expected, "a run is refused exactly where the book is not sound");
-    must(run.done == done && run.used == used, "the answers and the bytes of a run are as many as the second program's, and none with a refusal");
-    check_answers(answers, expected_answers, done);
-    check_book_after(&run.book, expected == DONE);
+    must(run.answer == expected.answer, "a run is refused exactly where the book is not sound");
+    must(run.done == expected.done && run.used == expected.used, "the answers and the bytes of a run are as many as the second program's, and none with a refusal");
+    check_words(answers, places, &expected);
+    check_book_after(&run.book, expected.answer == DONE);
     check_tables(run.answer);
-    if (expected != DONE) return;
+    if (expected.answer != DONE) return;
     check_closed_places();
     check_still_sound(&run.book);
     adopt(&run.book);

@@ -13,12 +13,18 @@ struct seen seen_is_sound = {.name = "is_sound: 1 yes", .can_come = "0 1"};
 struct seen seen_close_gate = {.name = "close_gate", .can_come = "0 1 2"};
 struct seen seen_notify = {.name = "notify", .can_come = "0 1 2 3 4 5 6 7 8 9 10 11 12 13 14"};
 struct seen seen_kind = {.name = "notify: kind", .can_come = "0 1 2 3"};
+/* 0 the first entry, 1 one between, 2 the last, 3 the 51st; and volumes out of range besides, 1 before that entry, 2 behind it, 3 both (changing.c). */
+struct seen seen_fault = {.name = "notify: where at fault", .can_come = "0 1 2 3"};
+struct seen seen_volumes_beside = {.name = "notify: volumes wrong beside", .can_come = "0 1 2 3"};
 struct seen seen_nullify = {.name = "nullify", .can_come = "0 1 2 9 15"};
 struct seen seen_apply = {.name = "apply", .can_come = "0 1 2 3 4 5 6 7 8 9 10 11 12 13 14 15 19 20 21 22"};
 struct seen seen_applied_kind = {.name = "apply: kind", .can_come = "0 1 2 3"};
+struct seen seen_applied_fault = {.name = "apply: where at fault", .can_come = "0 1 2",
+                                  .cannot = "3 (of more than 50 entries a packed message is refused by 21)"};
 struct seen seen_apply_all = {.name = "apply_all", .can_come = "0 1"};
 struct seen seen_run_answer = {.name = "apply_all: its messages", .can_come = "0 2 3 4 5 6 7 8 9 10 11 12 13 14 15 19 20 21 22",
                                .cannot = "1 (the run is refused as a whole)"};
+struct seen seen_run_fault = {.name = "apply_all: where at fault", .can_come = "0 1 2", .cannot = "3 (as apply)"};
 struct seen seen_total = {.name = "total", .can_come = "0 1 15 16", .cannot = "26 (256 slots of 99,999,999 come to 25,599,999,744)"};
 struct seen seen_day_totals = {.name = "day_totals", .can_come = "0 1 15 16 24", .cannot = "26 (as total)"};
 struct seen seen_figures = {.name = "figures", .can_come = "0 1 15 16"};
@@ -45,7 +51,8 @@ struct seen seen_open_packed_checked = {.name = "open_packed_checked", .can_come
 
 void expect_numbers(void) {
     struct seen *rows[] = {&seen_message_refusal, &seen_message_length, &seen_message_field, &seen_read_setup, &seen_open, &seen_is_sound,
-                           &seen_close_gate, &seen_notify, &seen_kind, &seen_nullify, &seen_apply, &seen_applied_kind, &seen_apply_all, &seen_run_answer, &seen_total,
+                           &seen_close_gate, &seen_notify, &seen_kind, &seen_fault, &seen_volumes_beside, &seen_nullify, &seen_apply, &seen_applied_kind, &seen_applied_fault,
+                           &seen_apply_all, &seen_run_answer, &seen_run_fault, &seen_total,
                            &seen_day_totals, &seen_figures, &seen_row_refusal, &seen_day_marks, &seen_case,
                            &seen_read_message, &seen_write_message, &seen_write_setup, &seen_open_packed, &seen_mark, &seen_row,
                            &seen_day_length, &seen_code_of_day, &seen_code, &seen_day_of_date, &seen_date_of_day, &seen_propose_codes,

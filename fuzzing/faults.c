@@ -29,6 +29,12 @@ const char *const fault_names[] = {
     "clocks_change_a_week_early", "day_of_a_code_is_cut_to_16_bits", "year_of_a_date_is_cut_to_16_bits", "thirtieth_of_february_is_a_day",
     "day_after_2099_has_a_date", "day_past_those_proposed_has_a_code", "disagreeing_code_comes_before_the_calendar",
     "padding_bit_comes_before_a_disagreeing_code", "disagreeing_code_changes_a_place", "checked_opening_does_not_ask_the_calendar",
+    "entries_are_counted_from_one", "place_is_missing", "last_entry_at_fault_is_named", "earlier_of_two_that_do_not_rise_is_named",
+    "entry_before_a_high_period_is_named", "volume_before_a_wrong_period_is_named", "fifty_first_entry_is_named_as_the_fiftieth",
+    "fifty_first_entry_comes_before_the_others", "refused_key_has_a_place", "accepted_notification_has_a_place",
+    "place_of_a_packed_notification_is_lost", "accepted_packed_message_has_a_place", "unreadable_message_has_a_place",
+    "places_of_a_run_are_lost", "place_is_carried_on_in_a_run", "answers_and_places_change_their_buffers", "place_past_the_run_is_written",
+    "place_past_the_buffer_is_written", "run_goes_on_past_the_room_for_places", "run_stops_one_before_the_room_for_places", "refused_run_writes_a_place",
     NULL
 };
 
@@ -109,6 +115,56 @@ static void misplace(const ghendufika_book *book, const ghendufika_notification 
     if (is("long_day_has_zero_in_5_and_6") && long_day != NULL) long_day[4] = long_day[5] = 0;
 }
 
+/* A3: which entry is at fault. Of a notification that was refused by 10 or 11, so that a single day is a day of the book. */
+static unsigned highest_period(const ghendufika_book *book, const ghendufika_notification *n) {
+    static const unsigned lengths[] = {46, 48, 50};
+    return n->first == n->last ? lengths[book->setup.codes[n->first - book->setup.first]] : 48;
+}
+
+static bool is_wrong_volume(const ghendufika_entry *entry) { return entry->volume > GHENDUFIKA_MOST_VOLUME || entry->volume < -GHENDUFIKA_MOST_VOLUME; }
+
+static bool is_at_fault(const ghendufika_notification *n, unsigned entry, uint8_t answer, unsigned highest) {
+    unsigned period = n->entries[entry].period, before = entry == 0 ? 0 : n->entries[entry - 1].period;
+    return answer == GHENDUFIKA_VOLUME_WRONG ? is_wrong_volume(&n->entries[entry]) : period <= before || period > highest;
+}
+
+static uint8_t last_at_fault(const ghendufika_notification *n, ghendufika_notified notified, unsigned highest) {
+    unsigned last = notified.place;
+    if (n->count > GHENDUFIKA_MOST_ENTRIES) return GHENDUFIKA_MOST_ENTRIES;
+    for (unsigned entry = last; entry < n->count; entry++)
+        if (is_at_fault(n, entry, notified.answer, highest)) last = entry;
+    return (uint8_t)last;
+}
+
+static uint8_t first_wrong_volume(const ghendufika_notification *n, uint8_t place) {
+    for (uint8_t entry = 0; entry < place && entry < GHENDUFIKA_MOST_ENTRIES; entry++)
+        if (is_wrong_volume(&n->entries[entry])) return entry;
+    return place;
+}
+
+static uint8_t misnamed(const ghendufika_book *book, const ghendufika_notification *n, ghendufika_notified notified) {
+    unsigned highest = highest_period(book, n);
+    uint8_t place = notified.place;
+    bool by_period = notified.answer == GHENDUFIKA_PERIOD_WRONG, past = place == GHENDUFIKA_MOST_ENTRIES;
+    unsigned period = past ? 0 : n->entries[place].period;
+    if (is("entries_are_counted_from_one")) return (uint8_t)(place + 1);
+    if (is("place_is_missing")) return 0;
+    if (is("last_entry_at_fault_is_named")) return last_at_fault(n, notified, highest);
+    if (is("earlier_of_two_that_do_not_rise_is_named") && by_period && !past && place > 0 && period > 0 && period <= highest) return (uint8_t)(place - 1);
+    if (is("entry_before_a_high_period_is_named") && by_period && place > 0 && period > highest) return (uint8_t)(place - 1);
+    if (is("volume_before_a_wrong_period_is_named") && by_period) return first_wrong_volume(n, place);
+    if (is("fifty_first_entry_is_named_as_the_fiftieth") && past) return (uint8_t)(place - 1);
+    if (is("fifty_first_entry_comes_before_the_others") && by_period && n->count > GHENDUFIKA_MOST_ENTRIES) return GHENDUFIKA_MOST_ENTRIES;
+    return place;
+}
+
+static uint8_t faulty_place(const ghendufika_book *book, const ghendufika_notification *n, ghendufika_notified notified) {
+    if (notified.answer == GHENDUFIKA_PERIOD_WRONG || notified.answer == GHENDUFIKA_VOLUME_WRONG) return misnamed(book, n, notified);
+    if (is("refused_key_has_a_place") && notified.answer == GHENDUFIKA_KEY_OR_AGENT_WRONG) return 1;
+    if (is("accepted_notification_has_a_place") && notified.answer == 0 && n->count > 1) return (uint8_t)(n->count - 1);
+    return notified.place;
+}
+
 ghendufika_notified faulty_notify(ghendufika_book book, ghendufika_notification notification, uint32_t *held, size_t slots, int32_t *side1, size_t lent1, int32_t *side2, size_t lent2) {
     if (is("key_is_not_tested") && notification.authorisation < book.setup.authorisations && notification.authorisation < 64)
         notification.key = book.setup.rows[notification.authorisation].key;
@@ -121,6 +177,7 @@ ghendufika_notified faulty_notify(ghendufika_book book, ghendufika_notification 
     if (is("refused_notification_changes_a_place") && notified.answer == 13) side1[lent1 - 1] ^= 1;
     if (is("refused_notification_takes_a_slot") && notified.answer == 12) held[slots - 1]++;
     misplace(&book, &notification, notified, side1);
+    notified.place = faulty_place(&book, &notification, notified);
     return notified;
 }
 
@@ -146,14 +203,35 @@ ghendufika_applied faulty_apply(ghendufika_book book, const uint8_t *bytes, size
     if (is("kind_of_a_packed_notification_is_lost")) applied.kind = 0;
     if (is("slot_of_a_packed_notification_is_lost")) applied.slot = 0;
     if (is("gate_has_a_kind") && applied.answer == 0 && applied.length == 1) applied.kind = 1;
+    if (is("place_of_a_packed_notification_is_lost")) applied.place = 0;
+    if (is("accepted_packed_message_has_a_place") && applied.answer == 0 && applied.length > 16) applied.place = 1;
+    if (is("unreadable_message_has_a_place") && applied.answer == GHENDUFIKA_TOO_MANY_ENTRIES) applied.place = GHENDUFIKA_MOST_ENTRIES;
     if (is("reading_comes_before_soundness") && applied.answer == 1 && unreadable != 0) applied.answer = unreadable;
     return applied;
 }
 
-ghendufika_applied_all faulty_apply_all(ghendufika_book book, const uint8_t *bytes, size_t length, uint32_t *held, size_t slots, int32_t *side1, size_t lent1, int32_t *side2, size_t lent2, uint8_t *answers, size_t room) {
-    ghendufika_applied_all run = ghendufika_apply_all(book, bytes, length, held, slots, side1, lent1, side2, lent2, answers, room);
+/* A3: faults of a run's places, when it has been done. */
+static void misplace_in_run(const ghendufika_applied_all *run, uint8_t *answers, uint8_t *places, size_t places_room) {
+    for (size_t k = 0; k < run->done; k++) {
+        uint8_t answer = answers[k];
+        if (is("places_of_a_run_are_lost")) places[k] = 0;
+        if (is("place_is_carried_on_in_a_run") && k > 0 && answer != GHENDUFIKA_PERIOD_WRONG && answer != GHENDUFIKA_VOLUME_WRONG) places[k] = places[k - 1];
+        if (is("answers_and_places_change_their_buffers")) answers[k] = places[k], places[k] = answer;
+    }
+    if (is("place_past_the_run_is_written") && run->done < places_room) places[run->done] ^= 1;
+    if (is("place_past_the_buffer_is_written")) *(volatile uint8_t *)(places + places_room) = 0;
+    if (is("refused_run_writes_a_place") && run->answer != 0 && places_room > 0) places[0] ^= 1;
+}
+
+ghendufika_applied_all faulty_apply_all(ghendufika_book book, const uint8_t *bytes, size_t length, uint32_t *held, size_t slots, int32_t *side1, size_t lent1, int32_t *side2, size_t lent2, uint8_t *answers, size_t room, uint8_t *places, size_t places_room) {
+    uint8_t own_places[64]; /* as many as the harness has room for; so what goes on too far is seen by what it gives, and does no harm */
+    bool goes_on = is("run_goes_on_past_the_room_for_places") && places_room < room;
+    if (is("run_stops_one_before_the_room_for_places") && places_room > 0) places_room--;
+    ghendufika_applied_all run = ghendufika_apply_all(book, bytes, length, held, slots, side1, lent1, side2, lent2, answers, room, goes_on ? own_places : places, goes_on ? sizeof own_places : places_room);
+    if (goes_on) memcpy(places, own_places, run.done < places_room ? run.done : places_room);
     if (is("run_loses_its_last_answer") && run.done == 5) run.done--;
     if (is("answer_past_the_run_is_written") && run.done < room) answers[run.done] ^= 1;
+    misplace_in_run(&run, answers, places, places_room);
     return run;
 }
 

@@ -301,9 +301,19 @@ static unsigned some_originator(const ghendufika_setup *setup, unsigned authoris
     return authorisation;
 }
 
-static void give_entries(const ghendufika_setup *setup, ghendufika_notification *n) {
+static unsigned highest_period(const ghendufika_setup *setup, const ghendufika_notification *n) {
     unsigned place = (unsigned)(n->first - setup->first) & 0xffff;
-    unsigned highest = n->first == n->last && place < setup->days && place < MOST_DAYS ? periods_on(setup, place) : 48;
+    return n->first == n->last && place < setup->days && place < MOST_DAYS ? periods_on(setup, place) : 48;
+}
+
+/* As many entries as the days have periods; the struct is filled, and what is past them rises too. */
+static void give_every_period(const ghendufika_setup *setup, ghendufika_notification *n) {
+    for (unsigned entry = 0; entry < GHENDUFIKA_MOST_ENTRIES; entry++) n->entries[entry] = (ghendufika_entry){(uint8_t)(entry + 1), some_volume()};
+    n->count = (uint8_t)highest_period(setup, n);
+}
+
+static void give_entries(const ghendufika_setup *setup, ghendufika_notification *n) {
+    unsigned highest = highest_period(setup, n);
     unsigned period = 0, step = one_in(16) ? 1 : (unsigned)between(1, 12);
     unsigned wanted = step == 1 ? 50 : (unsigned)ONE_OF(0, 1, 1, 2, 3);
     n->count = 0;
@@ -332,14 +342,33 @@ static ghendufika_notification right_notification(const struct tables *tables) {
     return n;
 }
 
-static void spoil_entry(ghendufika_notification *n) {
-    if (n->count == 0 || n->count > 50) n->count = 1;
-    ghendufika_entry *entry = &n->entries[below(n->count)];
-    switch (below(3)) {
-    case 0: entry->period = (uint8_t)ONE_OF(0, 46, 47, 48, 49, 50, 51, 255, 1); break;
-    case 1: entry->volume = wrong_volume(); break;
+/* The first, the last or any, so that each of them is often the one at fault; of few entries it often makes all that the days have. */
+static unsigned some_entry(const ghendufika_setup *setup, ghendufika_notification *n) {
+    if (n->count == 0 || n->count > GHENDUFIKA_MOST_ENTRIES || (n->count < 4 && one_in(2))) give_every_period(setup, n);
+    return (unsigned)ONE_OF(0, n->count - 1, below(n->count));
+}
+
+static void spoil_entry(const ghendufika_setup *setup, ghendufika_notification *n) {
+    unsigned place = some_entry(setup, n);
+    ghendufika_entry *entry = &n->entries[place];
+    switch (below(6)) {
+    case 0: entry->period = (uint8_t)ONE_OF(0, 46, 47, 48, 49, 50, 51, 63, 255, 1); break;
+    case 1: entry->period = (uint8_t)(highest_period(setup, n) + ONE_OF(0, 1)); break;
+    case 2: if (place > 0) entry->period = (uint8_t)(n->entries[place - 1].period - ONE_OF(0, 0, 1)); break; /* of two that do not rise the later */
+    case 3: case 4: entry->volume = wrong_volume(); break;
     default: entry->volume = some_volume(); break;
     }
+}
+
+/* More entries than there can be. Of a single day of 50 periods the 51st is the first at fault, elsewhere one before it. */
+static void give_too_many_entries(const ghendufika_setup *setup, ghendufika_notification *n) {
+    bool of_a_long_day = !one_in(4);
+    for (unsigned day = 0; day < setup->days && day < MOST_DAYS; day++)
+        if (of_a_long_day && setup->codes[day] == GHENDUFIKA_DAY_OF_50) n->first = n->last = (uint16_t)(setup->first + day);
+    give_every_period(setup, n);
+    n->count = (uint8_t)ONE_OF(50, 51, 51, 63, 255);
+    if (one_in(4)) n->entries[below(GHENDUFIKA_MOST_ENTRIES)].volume = wrong_volume(); /* 11, and 10 comes first */
+    if (one_in(8)) n->entries[below(GHENDUFIKA_MOST_ENTRIES)].period = (uint8_t)ONE_OF(0, 1, 50, 51);
 }
 
 static void spoil_notification(const struct tables *tables, ghendufika_notification *n) {
@@ -351,8 +380,8 @@ static void spoil_notification(const struct tables *tables, ghendufika_notificat
     case 3: n->originator = (uint8_t)ONE_OF(0, 1, 2, setup->authorisations, 64, 255); break;
     case 4: n->first = (uint16_t)ONE_OF(0, setup->first + setup->days, 65535, n->last + 1, chance()); break;
     case 5: n->last = (uint16_t)ONE_OF(n->first - 1, setup->first - 1, setup->first, 65535, chance()); break;
-    case 6: n->count = (uint8_t)ONE_OF(50, 51, 63, 255); break;
-    default: spoil_entry(n); break;
+    case 6: give_too_many_entries(setup, n); break;
+    default: for (unsigned times = one_in(2) ? 1 : 3; times > 0; times--) spoil_entry(setup, n); break; /* several at once, 10 behind 11 among them */
     }
 }
 

@@ -157,7 +157,7 @@ static uint8_t refusal_by_questions(void) {
     return refusal;
 }
 
-/* The message done by what the questions about the book and its bytes say; kind and slot are a notification's alone. */
+/* The message done by what the questions about the book and its bytes say; kind, slot and place are a notification's alone. */
 static ghendufika_notified do_by_questions(ghendufika_book *book) {
     ghendufika_notified done = {.answer = refusal_by_questions()};
     if (done.answer != 0) return done;
@@ -192,20 +192,23 @@ void law_apply_is_questions_and_a_call_by_struct(void) {
     ghendufika_notified done = do_by_questions(&book);
     must(done.answer == applied.answer, "a packed message is answered as its questions and the call by struct");
     must(done.kind == applied.kind && done.slot == applied.slot, "a packed message has the kind and the slot of the call by struct");
+    must(done.place == applied.place, "a packed message has the place of the call by struct");
     check_what_is_left(&book, "a packed message leaves what its questions and the call by struct leave");
     must(applied.length == (applied.answer == 0 ? length_by_question(0) : 0), "a packed message that is accepted takes the length that the question gives");
 }
 
 void law_apply_all_is_apply_one_by_one(void) {
-    uint8_t answers[64];
+    uint8_t answers[64], places[64];
     lend_model();
     if (!sound_book(&second)) return; /* a run is refused as a whole there, and gives no answers */
     lend_bytes(made, some_messages_bytes(&model, made));
     asked.room[0] = below(sizeof answers + 1);
+    asked.room[1] = below(sizeof places + 1);
     ask("ghendufika_apply_all", SAY_TABLES | SAY_BYTES | SAY_ROOM);
-    ghendufika_applied_all run = ghendufika_apply_all(before.book, asked.bytes, asked.length, TABLES_TO_CHANGE, answers, asked.room[0]);
+    ghendufika_applied_all run = ghendufika_apply_all(before.book, asked.bytes, asked.length, TABLES_TO_CHANGE, answers, asked.room[0], places, asked.room[1]);
     note(&seen_apply_all, run.answer);
-    must(run.done <= asked.room[0] && run.used <= asked.length, "a run gives no more answers than there is room, and uses no more bytes than there are");
+    must(run.done <= asked.room[0] && run.done <= asked.room[1] && run.used <= asked.length,
+         "a run gives no more answers and places than there is room, and uses no more bytes than there are");
     keep_what_is_left(&run.book);
     lend_before();
     ghendufika_book book = before.book;
@@ -213,6 +216,7 @@ void law_apply_all_is_apply_one_by_one(void) {
     for (size_t k = 0; k < run.done; k++) {
         ghendufika_applied one = apply_lent_bytes(&book, used);
         must(one.answer == answers[k], "a run answers as its messages one by one");
+        must(one.place == places[k], "a run gives the places of its messages one by one");
         book = one.book;
         used += one.answer == 0 ? one.length : length_by_question(used); /* 0 where it is unreadable */
     }
