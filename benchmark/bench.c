@@ -23,7 +23,7 @@ typedef struct {
     int64_t (*message_field)(const uint8_t *, size_t, uint32_t);
     bool (*is_sound)(ghendufika_book, const uint32_t *, size_t, const int32_t *, size_t, const int32_t *, size_t);
     ghendufika_applied (*apply)(ghendufika_book, const uint8_t *, size_t, uint32_t *, size_t, int32_t *, size_t, int32_t *, size_t);
-    ghendufika_applied_all (*apply_all)(ghendufika_book, const uint8_t *, size_t, uint32_t *, size_t, int32_t *, size_t, int32_t *, size_t, uint8_t *, size_t);
+    ghendufika_applied_all (*apply_all)(ghendufika_book, const uint8_t *, size_t, uint32_t *, size_t, int32_t *, size_t, int32_t *, size_t, uint8_t *, size_t, uint8_t *, size_t);
     ghendufika_totalled (*total)(ghendufika_book, const uint32_t *, size_t, const int32_t *, size_t, const int32_t *, size_t, uint32_t, uint32_t, uint32_t);
     uint8_t (*day_totals)(ghendufika_book, const uint32_t *, size_t, const int32_t *, size_t, const int32_t *, size_t, uint32_t, uint32_t, int64_t *, size_t);
     ghendufika_figured (*figures)(ghendufika_book, const uint32_t *, size_t, const int32_t *, size_t, const int32_t *, size_t, uint32_t, uint32_t);
@@ -44,7 +44,7 @@ typedef struct {
     ghendufika_book book;
     uint32_t held[GHENDUFIKA_MOST_SLOTS];
     int32_t side1[MOST_PLACES], side2[MOST_PLACES];
-    uint8_t answers[MOST_MESSAGES];
+    uint8_t answers[MOST_MESSAGES], places[MOST_MESSAGES];
     int64_t results[MOST_RESULTS];
     double figures[3];
     uint8_t lengths[DAYS_OF_CALENDAR];
@@ -80,8 +80,9 @@ static bool same_book(const ghendufika_book *a, const ghendufika_book *b) {
 static void hold_against_each_other(const char *job) {
     bool same = same_book(&ours.book, &twin.book) && memcmp(ours.held, twin.held, slots * sizeof *ours.held) == 0 &&
                 memcmp(ours.side1, twin.side1, lent * sizeof *ours.side1) == 0 && memcmp(ours.side2, twin.side2, lent * sizeof *ours.side2) == 0 &&
-                memcmp(ours.answers, twin.answers, sizeof ours.answers) == 0 && memcmp(ours.results, twin.results, sizeof ours.results) == 0 &&
-                memcmp(ours.figures, twin.figures, sizeof ours.figures) == 0 && memcmp(ours.lengths, twin.lengths, sizeof ours.lengths) == 0;
+                memcmp(ours.answers, twin.answers, sizeof ours.answers) == 0 && memcmp(ours.places, twin.places, sizeof ours.places) == 0 &&
+                memcmp(ours.results, twin.results, sizeof ours.results) == 0 && memcmp(ours.figures, twin.figures, sizeof ours.figures) == 0 &&
+                memcmp(ours.lengths, twin.lengths, sizeof ours.lengths) == 0;
     if (same) return;
     fprintf(stderr, "bench: %s: ", job);
     give_up("the two differ, so their times say nothing");
@@ -123,7 +124,7 @@ static void ask_all_fields(worker *w) {
 }
 
 static void apply_all(worker *w) {
-    ghendufika_applied_all done = w->with->apply_all(w->book, run.bytes, run.length, TABLES(w), w->answers, MOST_MESSAGES);
+    ghendufika_applied_all done = w->with->apply_all(w->book, run.bytes, run.length, TABLES(w), w->answers, MOST_MESSAGES, w->places, MOST_MESSAGES);
     if (done.answer != 0 || done.done != run.messages || done.used != run.length) give_up("a run was not done to its end");
     w->book = done.book;
 }
@@ -134,6 +135,7 @@ static void apply_one_by_one(worker *w) {
     for (size_t k = 0; k < run.messages; k++) {
         ghendufika_applied done = w->with->apply(w->book, run.bytes + at, run.length - at, TABLES(w));
         w->answers[k] = done.answer;
+        w->places[k] = done.place;
         w->book = done.book;
         kinds_and_slots = kinds_and_slots * 1000003 + done.kind * 65536u + done.slot;
         at += done.answer == 0 ? done.length : w->with->message_length(run.bytes + at, run.length - at); /* a refusal gives no length */
@@ -290,6 +292,18 @@ static void print_mixture(const char *name) {
            twin_accepted[2], twin_accepted[3], twin.book.closed - fresh.book.closed);
 }
 
+/* Where both forget a place they agree, so that the run has all of them is asked apart: under 10 and under 11, each at every entry. */
+static void check_every_place(void) {
+    bool seen[2][GHENDUFIKA_MOST_ENTRIES] = {{false}};
+    for (size_t k = 0; k < run.messages; k++) {
+        bool by_volume = ours.answers[k] == GHENDUFIKA_VOLUME_WRONG;
+        if (!by_volume && ours.answers[k] != GHENDUFIKA_PERIOD_WRONG) give_up("a notification with a wrong entry was not refused for it");
+        seen[by_volume][ours.places[k]] = true;
+    }
+    for (unsigned entry = 0; entry < GHENDUFIKA_MOST_ENTRIES; entry++)
+        if (!seen[0][entry] || !seen[1][entry]) give_up("an entry was never the one at fault");
+}
+
 /* ---- the tables that are printed */
 
 static void print_reading(void) {
@@ -301,6 +315,9 @@ static void print_reading(void) {
     print_job("its length", ask_lengths, run.messages);
     print_job("all its 109 fields, each asked apart", ask_all_fields, 1);
     print_job("1000 such, read and applied to 4 slots, each", apply_all, run.messages);
+    take(refused_notifications(&setup, 1000));
+    print_job("1000 such, refused for one entry, each", apply_all, run.messages);
+    check_every_place();
 }
 
 /* The same messages on two books of as many periods, so that the times differ by what a short and a long day cost. */

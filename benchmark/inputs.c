@@ -131,6 +131,19 @@ run_of_messages full_notifications(const ghendufika_setup *s, size_t messages) {
     return run;
 }
 
+run_of_messages refused_notifications(const ghendufika_setup *s, size_t messages) {
+    run_of_messages run = room_for(messages);
+    for (size_t k = 0; k < messages; k++) {
+        struct message m = notice_of_four(s, MOST_ENTRIES);
+        struct entry *wrong = &m.notification.entry[k / 2 % MOST_ENTRIES];
+        m.notification.last_day = m.notification.first_day;
+        if (k % 2 == 0) wrong->period = 0;
+        else wrong->volume = HIGHEST_VOLUME + 1;
+        append(&run, &m);
+    }
+    return run;
+}
+
 run_of_messages long_notifications(const ghendufika_setup *s, size_t messages) {
     run_of_messages run = room_for(messages);
     for (size_t k = 0; k < messages; k++) {

@@ -26,6 +26,9 @@ run_of_messages trading(const ghendufika_setup *setup, size_t slots, size_t mess
 /* Notifications of 50 entries for the book's one day of 50 periods. */
 run_of_messages full_notifications(const ghendufika_setup *setup, size_t messages);
 
+/* The same with one entry at fault in each, by its period or by its volume: both by every entry, where there are 100 or more. */
+run_of_messages refused_notifications(const ghendufika_setup *setup, size_t messages);
+
 /* Notifications of 48 entries over two or more of the book's days, half of them evergreen. They do not depend on how long the days are. */
 run_of_messages long_notifications(const ghendufika_setup *setup, size_t messages);
 

@@ -342,21 +342,26 @@ static uint8_t refusal_of_head(const tables *t, const head *n) {
     return 0;
 }
 
-/* 10 and 11; the volumes by their periods, from 0. A six-bit period less one has room in 64 places. */
-static uint8_t read_entries(const tables *t, const head *n, const uint8_t *bytes, size_t whole, int32_t volumes[64]) {
+/* An answer without kind and slot, and without the place of an entry. */
+static ghendufika_notified only(uint8_t answer) { return (ghendufika_notified){.answer = answer}; }
+
+static ghendufika_notified at_fault(uint8_t answer, unsigned entry) { return (ghendufika_notified){.answer = answer, .place = (uint8_t)entry}; }
+
+/* 10 and 11, with the first entry at fault (request A3, document 02), in one pass: the first wrong volume is kept, since a period further on comes before
+ * it. The volumes by their periods, from 0: a six-bit period less one has room in 64 places. */
+static ghendufika_notified read_entries(const tables *t, const head *n, const uint8_t *bytes, size_t whole, int32_t volumes[64]) {
     unsigned highest = n->first == n->last ? t->clock.periods[n->first - t->clock.first] : PLAIN_DAY;
-    unsigned before = 0;
-    uint32_t wrong = 0;
+    unsigned before = 0, wrong = MOST_ENTRIES;
     for (unsigned k = 0; k < n->count; k++) {
         uint64_t entry = entry_in(bytes, whole, k);
         unsigned period = period_of(entry);
         int32_t volume = volume_of(entry);
-        if (period <= before || period > highest) return 10;
-        wrong |= (uint32_t)volume + MOST_KWH > 2 * MOST_KWH;
+        if (period <= before || period > highest) return at_fault(10, k);
+        if ((uint32_t)volume + MOST_KWH > 2 * MOST_KWH && wrong == MOST_ENTRIES) wrong = k;
         volumes[period - 1] = volume;
         before = period;
     }
-    return wrong ? 11 : 0;
+    return wrong < MOST_ENTRIES ? at_fault(11, wrong) : only(0);
 }
 
 /* Something stands in these places. A row is mostly full or blank, so it is read whole, on vectors. */
@@ -454,16 +459,13 @@ static unsigned kind_of(const tables *t, const head *n, bool writes1, bool write
     return is_additional(t, n, writes1, writes2, is_own ? slot : t->slots) ? ADDITIONAL : INITIAL;
 }
 
-/* An answer without kind and slot. */
-static ghendufika_notified only(uint8_t answer) { return (ghendufika_notified){.answer = answer}; }
-
 static ghendufika_notified notify(const tables *t, const uint8_t *bytes, size_t whole) {
     int32_t volumes[64] = {0};
     head n = head_in(bytes);
     uint8_t refusal = refusal_of_head(t, &n);
     if (refusal != 0) return only(refusal);
-    refusal = read_entries(t, &n, bytes, whole, volumes);
-    if (refusal != 0) return only(refusal);
+    ghendufika_notified entries = read_entries(t, &n, bytes, whole, volumes);
+    if (entries.answer != 0) return entries;
 
     const ghendufika_authorisation *under = &t->book->setup.rows[n.authorisation];
     bool writes1 = n.agent == under->agent1, writes2 = n.agent == under->agent2, is_own;
@@ -508,7 +510,7 @@ static uint8_t close_gate(tables *t) {
     return 0;
 }
 
-/* Kind and slot are a notification's alone. */
+/* Kind, slot and place are a notification's alone. */
 static ghendufika_notified do_message(tables *t, const uint8_t *bytes, size_t whole) {
     switch (bytes[0] >> 6) {
     case 0: return only(close_gate(t));
@@ -528,21 +530,25 @@ ghendufika_applied twin_apply(ghendufika_book book, const uint8_t *bytes, size_t
     applied.answer = done.answer;
     applied.kind = done.kind;
     applied.slot = done.slot;
+    applied.place = done.place;
     applied.length = done.answer == 0 ? whole : 0;
     return applied;
 }
 
-ghendufika_applied_all twin_apply_all(ghendufika_book book, const uint8_t *bytes, size_t length, uint32_t *held, size_t slots, int32_t *side1, size_t lent1, int32_t *side2, size_t lent2, uint8_t *answers, size_t room) {
+ghendufika_applied_all twin_apply_all(ghendufika_book book, const uint8_t *bytes, size_t length, uint32_t *held, size_t slots, int32_t *side1, size_t lent1, int32_t *side2, size_t lent2, uint8_t *answers, size_t room, uint8_t *places, size_t places_room) {
     ghendufika_applied_all run = {.book = book};
     if (!book_is_sound(&run.book, held, slots, side1, lent1, side2, lent2)) {
         run.answer = 1;
         return run;
     }
     tables t = {&run.book, clock_of(&run.book), held, slots, side1, side2};
-    while (run.done < room && run.used < length) {
+    size_t most = room < places_room ? room : places_room;
+    while (run.done < most && run.used < length) {
         size_t whole;
         uint8_t refusal = refusal_of_message(bytes + run.used, length - run.used, &whole);
-        answers[run.done++] = refusal != 0 ? refusal : do_message(&t, bytes + run.used, whole).answer;
+        ghendufika_notified done = refusal != 0 ? only(refusal) : do_message(&t, bytes + run.used, whole);
+        answers[run.done] = done.answer;
+        places[run.done++] = done.place;
         if (refusal != 0) break;
         run.used += whole;
     }
