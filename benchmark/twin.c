@@ -347,21 +347,32 @@ static ghendufika_notified only(uint8_t answer) { return (ghendufika_notified){.
 
 static ghendufika_notified at_fault(uint8_t answer, unsigned entry) { return (ghendufika_notified){.answer = answer, .place = (uint8_t)entry}; }
 
-/* 10 and 11, with the first entry at fault (request A3, document 02), in one pass: the first wrong volume is kept, since a period further on comes before
- * it. The volumes by their periods, from 0: a six-bit period less one has room in 64 places. */
+/* Whether a volume is out of range, as 0 or 1. */
+static uint32_t is_out(int32_t volume) { return (uint32_t)volume + MOST_KWH > 2 * MOST_KWH; }
+
+/* The first entry whose volume is out of range, where there is one. Kept out of the caller's loop: inlined there it makes every right message slower. */
+__attribute__((cold, noinline)) static unsigned first_out(const head *n, const uint8_t *bytes, size_t whole) {
+    unsigned k = 0;
+    while (k < n->count && !is_out(volume_of(entry_in(bytes, whole, k)))) k++;
+    return k;
+}
+
+/* 10 and 11, with the first entry at fault (request A3, document 02). A period further on comes before any volume, so of volumes it is
+ * kept only that one is wrong; which, is looked for only then. The volumes by their periods, from 0: a six-bit period less one has room in 64 places. */
 static ghendufika_notified read_entries(const tables *t, const head *n, const uint8_t *bytes, size_t whole, int32_t volumes[64]) {
     unsigned highest = n->first == n->last ? t->clock.periods[n->first - t->clock.first] : PLAIN_DAY;
-    unsigned before = 0, wrong = MOST_ENTRIES;
+    unsigned before = 0;
+    uint32_t wrong = 0;
     for (unsigned k = 0; k < n->count; k++) {
         uint64_t entry = entry_in(bytes, whole, k);
         unsigned period = period_of(entry);
         int32_t volume = volume_of(entry);
         if (period <= before || period > highest) return at_fault(10, k);
-        if ((uint32_t)volume + MOST_KWH > 2 * MOST_KWH && wrong == MOST_ENTRIES) wrong = k;
+        wrong |= is_out(volume);
         volumes[period - 1] = volume;
         before = period;
     }
-    return wrong < MOST_ENTRIES ? at_fault(11, wrong) : only(0);
+    return wrong ? at_fault(11, first_out(n, bytes, whole)) : only(0);
 }
 
 /* Something stands in these places. A row is mostly full or blank, so it is read whole, on vectors. */
