@@ -74,8 +74,8 @@ pub data Made : State → List (Call contracts) → State → Type 0 where
       → Applies (s .book) (s .held) (s .side1) (s .side2) bytes r h l1 l2
       → Made (record { book = r .book; held = h; side1 = l1; side2 = l2 }) calls t
       → Made s (callsIn 1 bytes ++ calls) t
-  apply-all-made : {s t : State} {calls : List (Call contracts)} (bytes answers places : List ℕ) (r : AppliedAll) (h : List ℕ) (l1 l2 : List ℤ) (left beside : List ℕ)
-      → AppliesAll (s .book) (s .held) (s .side1) (s .side2) bytes answers places r h l1 l2 left beside
+  apply-all-made : {s t : State} {calls : List (Call contracts)} (bytes answers places : List ℕ) (r : AppliedAll) (h : List ℕ) (l1 l2 : List ℤ) (answers-left places-left : List ℕ)
+      → AppliesAll (s .book) (s .held) (s .side1) (s .side2) bytes answers places r h l1 l2 answers-left places-left
       → Made (record { book = r .book; held = h; side1 = l1; side2 = l2 }) calls t
       → Made s (callsIn (min (length answers) (length places)) bytes ++ calls) t
 
@@ -106,10 +106,10 @@ module _ (s : State) where
       (λ e. ap (λ (x : Run). x .book) (run-sound (whole s) room bytes e .1) ∙ run-is-calls room (whole s) bytes)
       (λ e. ap (λ (x : Run). x .book) (run-unsound (whole s) room bytes e .1) ∙ sym (unsound-after (whole s) e (callsIn room bytes)))
 
-  run-leaves : (bytes answers places : List ℕ) (r : AppliedAll) (h : List ℕ) (l1 l2 : List ℤ) (left beside : List ℕ)
-      → AppliesAll (s .book) (s .held) (s .side1) (s .side2) bytes answers places r h l1 l2 left beside
+  run-leaves : (bytes answers places : List ℕ) (r : AppliedAll) (h : List ℕ) (l1 l2 : List ℤ) (answers-left places-left : List ℕ)
+      → AppliesAll (s .book) (s .held) (s .side1) (s .side2) bytes answers places r h l1 l2 answers-left places-left
       → bookOf (r .book) h l1 l2 ≡ after (whole s) (callsIn (min (length answers) (length places)) bytes)
-  run-leaves bytes answers places r h l1 l2 left beside p =
+  run-leaves bytes answers places r h l1 l2 answers-left places-left p =
       let room = min (length answers) (length places) in
       let w = runOn room (whole s) bytes .book in
       let e = run-calls room bytes in
@@ -130,9 +130,9 @@ follows {s} (nullify-made {calls} x r l1 l2 p m) =
     (message-leaves s (nullification (nullificationOf x)) (s .held) l1 l2 (sym (nullification-held (whole s) (nullificationOf x))) (p .1) (p .2))
 follows {s} (apply-made {calls} bytes r h l1 l2 p m) =
     follows m ∙ ap (λ (w : Meaning.Book contracts). after w calls) (applied-leaves s bytes r h l1 l2 p) ∙ sym (after-append (whole s) (callsIn 1 bytes) calls)
-follows {s} (apply-all-made {calls} bytes answers places r h l1 l2 left beside p m) =
+follows {s} (apply-all-made {calls} bytes answers places r h l1 l2 answers-left places-left p m) =
     follows m
-    ∙ ap (λ (w : Meaning.Book contracts). after w calls) (run-leaves s bytes answers places r h l1 l2 left beside p)
+    ∙ ap (λ (w : Meaning.Book contracts). after w calls) (run-leaves s bytes answers places r h l1 l2 answers-left places-left p)
     ∙ sym (after-append (whole s) (callsIn (min (length answers) (length places)) bytes) calls)
 
 -- ---- from an opened book

@@ -45,7 +45,7 @@ module _ (b : Book) (held held′ : RefT (List ℕ)) (side1 side1′ side2 side2
       → Applies b (now held) (now side1) (now side2) (now bytes) r (now held′) (now side1′) (now side2′)
   apply-promises κs bytes r p = p
 
-  pub apply-all-promises : (κs : Lfts 6) (bytes answers left places beside : RefT (List ℕ)) (r : AppliedAll)
-      → apply-all.Post κs (b, (bytes, (held, (side1, (side2, (answers, (places, tt))))))) r (b, (bytes, (held′, (side1′, (side2′, (left, (beside, tt)))))))
-      → AppliesAll b (now held) (now side1) (now side2) (now bytes) (now answers) (now places) r (now held′) (now side1′) (now side2′) (now left) (now beside)
-  apply-all-promises κs bytes answers left places beside r p = p
+  pub apply-all-promises : (κs : Lfts 6) (bytes answers answers-left places places-left : RefT (List ℕ)) (r : AppliedAll)
+      → apply-all.Post κs (b, (bytes, (held, (side1, (side2, (answers, (places, tt))))))) r (b, (bytes, (held′, (side1′, (side2′, (answers-left, (places-left, tt)))))))
+      → AppliesAll b (now held) (now side1) (now side2) (now bytes) (now answers) (now places) r (now held′) (now side1′) (now side2′) (now answers-left) (now places-left)
+  apply-all-promises κs bytes answers answers-left places places-left r p = p

@@ -45,7 +45,7 @@ module _ (b : Book) (held : List ℕ) (side1 side2 : List ℤ) where
       (r ≡ steppedOf b whole) × (h ≡ whole .book .ledger .held) × (l1 ≡ whole .book .ledger .side1) × (l2 ≡ whole .book .ledger .side2)
 
   abbrev pub AppliesAll : List ℕ → List ℕ → List ℕ → AppliedAll → List ℕ → List ℤ → List ℤ → List ℕ → List ℕ → Type 0
-  AppliesAll bytes answers places r h l1 l2 left beside =
+  AppliesAll bytes answers places r h l1 l2 answers-left places-left =
       let before = bookOf b held side1 side2 in
       let whole = runOn (min (length answers) (length places)) before bytes in
-      (r ≡ ranOf b (runAnswer before) whole) × (h ≡ whole .book .ledger .held) × (l1 ≡ whole .book .ledger .side1) × (l2 ≡ whole .book .ledger .side2) × (left ≡ sets answers 0 (answersIn (whole .outcomes))) × (beside ≡ sets places 0 (placesIn (whole .outcomes)))
+      (r ≡ ranOf b (runAnswer before) whole) × (h ≡ whole .book .ledger .held) × (l1 ≡ whole .book .ledger .side1) × (l2 ≡ whole .book .ledger .side2) × (answers-left ≡ sets answers 0 (answersIn (whole .outcomes))) × (places-left ≡ sets places 0 (placesIn (whole .outcomes)))

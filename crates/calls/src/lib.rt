@@ -23,7 +23,7 @@ pub struct Notified {
 }
 
 // Kind and slot are those of an accepted notification, 0 of any other message; the length is that of the message. With a refusal the three are 0,
-// and the book is as it came; the place is a notification's.
+// and the book is as it came; the place is as in Notified.
 #[repr(C)]
 pub struct Applied {
     pub answer: u8,

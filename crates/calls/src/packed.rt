@@ -50,7 +50,7 @@ fn step(b: Book, bytes: &[u8], held: &mut [u32], side1: &mut [i32], side2: &mut 
     }
 }
 
-// With a refusal the book is as it came, and every other result but the place is 0.
+// With a refusal the book is as it came, and every other result but the place, which is the refusal's, is 0.
 fn not_applied(b: Book, answer: u8, place: u8) -> Applied
     ensures { λ r. ⌜ r ≡ record { answer = answer; kind = 0; slot = 0; place = place; length = 0; book = b } ⌝ }
 {

@@ -125,6 +125,19 @@ pub(crate) fn do_nullification(
     0
 }
 
+// What a message that is no notification did: it has no kind, no slot and no place.
+fn told_alone(answer: u8, after: Book) -> Done
+    ensures { λ r. ⌜ r ≡ record { answer = answer; place = 0; kind = 0; slot = 0; book = after } ⌝ }
+{
+    Done {
+        answer: answer,
+        place: 0,
+        kind: 0,
+        slot: 0,
+        book: after,
+    }
+}
+
 // A message by its kind. A fourth kind is refused by its own number, and so are those above it; a reader gives none.
 pub(crate) fn do_message(
     b: Book,
@@ -144,13 +157,7 @@ pub(crate) fn do_message(
         0 => {
             let gate = gates::close_next(b);
             let after = gate.book;
-            Done {
-                answer: gate.answer,
-                place: 0,
-                kind: 0,
-                slot: 0,
-                book: after,
-            }
+            told_alone(gate.answer, after)
         }
         1 => {
             let told = do_notification(b, m.notification, held, side1, side2);
@@ -164,20 +171,8 @@ pub(crate) fn do_message(
         }
         2 => {
             let answer = do_nullification(b, m.nullification, held, side1, side2);
-            Done {
-                answer: answer,
-                place: 0,
-                kind: 0,
-                slot: 0,
-                book: b,
-            }
+            told_alone(answer, b)
         }
-        _ => Done {
-            answer: layouts::kind_refusal(kind),
-            place: 0,
-            kind: 0,
-            slot: 0,
-            book: b,
-        },
+        _ => told_alone(layouts::kind_refusal(kind), b),
     }
 }

@@ -111,10 +111,14 @@ thePlaces =
     let good : ℕ → ℕ → List (Entry contracts) = λ from n. build n (λ (k : ℕ). entry (from + k) (pos 5)) in
     let wide : ℤ = pos 100000000 in
     refusesAt 10 0 start (sent (entry 0 (pos 5) ∷ good 1 49))
+    && refusesAt 10 0 start (sent (entry 51 (pos 5) ∷ good 2 49))
+    && refusesAt 10 20 start (sent (good 1 20 ++ (entry 0 (pos 5) ∷ good 22 29)))
     && refusesAt 10 20 start (sent (good 1 20 ++ (entry 51 (pos 5) ∷ good 22 29)))
     && refusesAt 10 20 start (sent (good 1 20 ++ (entry 20 (pos 5) ∷ good 22 29)))
     && refusesAt 10 21 start (sent (good 1 20 ++ (entry 30 (pos 5) ∷ good 22 29)))
     && refusesAt 10 49 start (sent (good 1 49 ++ (entry 255 (pos 5) ∷ [])))
+    && refusesAt 10 49 start (sent (good 1 49 ++ (entry 0 (pos 5) ∷ [])))
+    && refusesAt 10 49 start (sent (good 1 49 ++ (entry 49 (pos 5) ∷ [])))
     && refusesAt 10 50 start (sent (good 1 51))
     && refusesAt 10 50 start (sent (good 1 50 ++ (entry 0 wide ∷ entry 7 wide ∷ [])))
     && refusesAt 10 3 start (sent (good 1 3 ++ (entry 0 (pos 5) ∷ entry 0 (pos 5) ∷ good 4 60)))

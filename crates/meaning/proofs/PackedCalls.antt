@@ -90,6 +90,17 @@ module _ (b : Book contracts) (bytes : List ℕ) where
   unfolding appliedAll
   one-more room n m = rw (ne-eqb (length bytes) 0 n, ne-eqb (stepped b bytes .length) 0 m)
 
+-- no more than there is room for
+pub few-outcomes : (room : ℕ) (b : Book contracts) (bytes : List ℕ) → length (appliedAll room b bytes .outcomes) ≤ room
+few-outcomes zero b bytes = rw (no-room b bytes 0 refl) (omega arith)
+few-outcomes (suc room) b bytes =
+    by-eq (length bytes) 0
+    (λ e. rw (bytes-ended b bytes (suc room) e) (omega arith))
+    (λ s.
+    by-eq (stepped b bytes .length) 0
+    (λ e. rw (unreadable b bytes room s e) (omega arith))
+    (λ t. rw (one-more b bytes room s t) (omega (arith, few-outcomes room (stepped b bytes .book) (drop (stepped b bytes .length) bytes)))))
+
 -- the calls of a run, opened in the same way
 module _ (bytes : List ℕ) (room : ℕ) where
   pub calls-unread : readMessage bytes .answer ≢ 0 → callsIn (suc room) bytes ≡ []

@@ -1,6 +1,6 @@
 -- Document 01, "What a notification does" and "Answer numbers" (1 to 14): what can be wrong with a notification, its kind, and its answer.
 use mathlib.Core.Bool.{Bool, not, _&&_, _||_}
-use mathlib.Core.List.{List, [], _∷_, _++_}
+use mathlib.Core.List.{List, _++_}
 use Prim.Native.Nat.{ℕ, zero, suc}
 use lib.ListN.{length, getD}
 use Rattle.words.specs.Tests.{if_then_else_, _<?_, _≤?_, _=?_, between}
@@ -56,7 +56,7 @@ module _ {K : Sort} where
   unfoldable pub volumeOffends : Notification K → ℕ → Bool
   volumeOffends n k = not (K .inRange (entryAt n k .volume))
 
-  -- some entry offends; and the place of the least that does, "the first offending entry's place, counted from 0" (02, A3)
+  -- some entry offends; and the place of the least that does, "the first offending entry's place, counted from 0" (02, A3); the count where none does
   unfoldable pub someEntry : Notification K → (ℕ → Bool) → Bool
   someEntry n offends = someBelow (length (n .entries)) offends
 

@@ -12,27 +12,17 @@ use Rattle.laws.proofs.Cases.{on, by-eq}
 use Rattle.meaning.specs.Ledgers.{contracts}
 use Rattle.meaning.specs.Books.{Book}
 use Rattle.meaning.specs.Soundness.{sound}
-use Rattle.meaning.specs.PackedCalls.{stepped, appliedAll, answersIn, placesIn, runOn}
-use Rattle.meaning.proofs.PackedCalls.{no-room, bytes-ended, unreadable, one-more}
+use Rattle.meaning.specs.PackedCalls.{answersIn, placesIn, runOn}
+use Rattle.meaning.proofs.PackedCalls.{few-outcomes}
 use Rattle.sheet_lines.specs.Outcomes.{outcomesOf}
 use Rattle.sheet_lines.proofs.Outcomes.{outcomes-whole}
 use Rattle.sheet_turns.specs.Turns.{lastIn}
 
 -- ---- no more than there is room for
 
-all-few : (room : ℕ) (b : Book contracts) (bytes : List ℕ) → length (appliedAll room b bytes .outcomes) ≤ room
-all-few zero b bytes = rw (no-room b bytes 0 refl) (omega arith)
-all-few (suc room) b bytes =
-    by-eq (length bytes) 0
-    (λ e. rw (bytes-ended b bytes (suc room) e) (omega arith))
-    (λ s.
-    by-eq (stepped b bytes .length) 0
-    (λ e. rw (unreadable b bytes room s e) (omega arith))
-    (λ t. rw (one-more b bytes room s t) (omega (arith, all-few room (stepped b bytes .book) (drop (stepped b bytes .length) bytes)))))
-
-pub few-outcomes : (room : ℕ) (b : Book contracts) (bytes : List ℕ) → length (runOn room b bytes .outcomes) ≤ room
+pub run-few : (room : ℕ) (b : Book contracts) (bytes : List ℕ) → length (runOn room b bytes .outcomes) ≤ room
 unfolding runOn
-few-outcomes room b bytes = on (sound b) (λ e. rw e (all-few room b bytes)) (λ e. rw e (omega arith))
+run-few room b bytes = on (sound b) (λ e. rw e (few-outcomes room b bytes)) (λ e. rw e (omega arith))
 
 -- ---- what the front of a buffer holds
 

@@ -24,7 +24,7 @@ use Rattle.sheet_parts.specs.Parts.{turnedOf, keptOf}
 use Rattle.sheet_parts.specs.Program.{State, Bytes, KeepsOf, TurnsOn, GoesOn, no-turn, one-turn, AllTurns, input-ends, unreadable}
 use Rattle.sheet_parts.specs.declared.Turned.{Turned}
 use Rattle.sheet_parts.proofs.AccountDays.{join-append}
-use Rattle.sheet_parts.proofs.Answers.{Stored, few-outcomes, told-stored}
+use Rattle.sheet_parts.proofs.Answers.{Stored, run-few, told-stored}
 use Rattle.sheet_parts.proofs.Fronts.{front-text, front-lines}
 use Rattle.sheet_parts.proofs.KeptLaws.{kept-fits}
 use Rattle.sheet_parts.proofs.Room.{Short, short-messages, many-messages}
@@ -75,7 +75,7 @@ module _ {seen : ℕ} {s : State} {ended : Bool} {bytes : List ℕ} {r : Turned}
   result = turn .promise .0 ∙ ap (turnedOf (s .book) seen ended (length bytes) (length (s .out))) same
 
   few : length (run .outcomes) ≤ room
-  few = rw (← same) (few-outcomes room (whole s) bytes)
+  few = rw (← same) (run-few room (whole s) bytes)
 
   stored : Stored (run .outcomes) (turn .answers) (turn .places) (turn .answers-left) (turn .places-left)
   stored =

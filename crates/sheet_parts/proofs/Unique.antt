@@ -35,7 +35,8 @@ module _ (b : Book) (seen : ℕ) (bytes : List ℕ) (ended : Bool) (held : List 
   abbrev Taken : Turned → List ℕ → List ℤ → List ℤ → List ℕ → List ℕ → List ℕ → Type 0
   Taken = Turns b seen bytes ended held side1 side2 answers places out
 
-  pub unique-turn : (r r′ : Turned) (h h′ : List ℕ) (l1 l1′ l2 l2′ : List ℤ) (l3 l3′ l4 l4′ text text′ : List ℕ)
-      → Taken r h l1 l2 l3 l4 text → Taken r′ h′ l1′ l2′ l3′ l4′ text′ → (r ≡ r′) × (h ≡ h′) × (l1 ≡ l1′) × (l2 ≡ l2′) × (l3 ≡ l3′) × (l4 ≡ l4′) × (text ≡ text′)
-  unique-turn r r′ h h′ l1 l1′ l2 l2′ l3 l3′ l4 l4′ text text′ p q =
+  pub unique-turn : (r r′ : Turned) (h h′ : List ℕ) (l1 l1′ l2 l2′ : List ℤ) (answers-left answers-left′ places-left places-left′ text text′ : List ℕ)
+      → Taken r h l1 l2 answers-left places-left text → Taken r′ h′ l1′ l2′ answers-left′ places-left′ text′
+      → (r ≡ r′) × (h ≡ h′) × (l1 ≡ l1′) × (l2 ≡ l2′) × (answers-left ≡ answers-left′) × (places-left ≡ places-left′) × (text ≡ text′)
+  unique-turn r r′ h h′ l1 l1′ l2 l2′ answers-left answers-left′ places-left places-left′ text text′ p q =
       (one-outcome (p .0) (q .0), one-outcome (p .1) (q .1), one-outcome (p .2) (q .2), one-outcome (p .3) (q .3), one-outcome (p .4) (q .4), one-outcome (p .5) (q .5), one-outcome (p .6) (q .6))

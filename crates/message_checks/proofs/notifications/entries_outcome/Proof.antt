@@ -1,7 +1,7 @@
 -- Each test is the rule's: an entry offends where the first place that does is below the count.
 use borrow.Author.Needs.{needs}
 use borrow.Author.Tests.{lt-ltb, le-ltb}
-use mathlib.Core.Bool.{true, false}
+use mathlib.Core.Bool.{false}
 use mathlib.Core.Path.{_≡_, ap, _∙_}
 use Prim.Native.Nat.{ℕ}
 use Rattle.laws.proofs.RuleByRule.{Outcomes, told}

@@ -11,7 +11,7 @@ use Rattle.meaning.specs.Ledgers.{contracts}
 use Rattle.meaning.specs.Books.{Book}
 use Rattle.meaning.specs.PackedCalls.{Run, runAnswer, runOn}
 use Rattle.book.specs.Structs.{bookOf}
-use Rattle.sheet_parts.proofs.Answers.{Stored, few-outcomes, answers-inside, places-inside}
+use Rattle.sheet_parts.proofs.Answers.{Stored, run-few, answers-inside, places-inside}
 use Rattle.sheet_parts.proofs.TurnLaws.{told-inside, turn-told}
 use Rattle.sheet_parts.proofs.turns.turn.Statement.{statement}
 use Rattle.sheet_parts.proofs.turns.turn.Tie as tie
@@ -54,8 +54,8 @@ module _ (k : tie.After-count-told) where
   stored : Stored (run .outcomes) (now (start .args .answers)) (now (start .args .places)) (ran .apply-all .last .1 .1 .1 .1 .1 .0) (ran .apply-all .last .1 .1 .1 .1 .1 .1 .0)
   stored =
       record {
-        answers-fit = omega (arith, few-outcomes room before bytes);
-        places-fit = omega (arith, few-outcomes room before bytes);
+        answers-fit = omega (arith, run-few room before bytes);
+        places-fit = omega (arith, run-few room before bytes);
         answers-stored = ran .apply-all .ensures .4;
         places-stored = ran .apply-all .ensures .5;
       }
