@@ -298,6 +298,7 @@ static void check_every_place(void) {
     for (size_t k = 0; k < run.messages; k++) {
         bool by_volume = ours.answers[k] == GHENDUFIKA_VOLUME_WRONG;
         if (!by_volume && ours.answers[k] != GHENDUFIKA_PERIOD_WRONG) give_up("a notification with a wrong entry was not refused for it");
+        if (ours.places[k] >= GHENDUFIKA_MOST_ENTRIES) give_up("a place is told that no packed notification has");
         seen[by_volume][ours.places[k]] = true;
     }
     for (unsigned entry = 0; entry < GHENDUFIKA_MOST_ENTRIES; entry++)

@@ -360,7 +360,7 @@ static void spoil_entry(const ghendufika_setup *setup, ghendufika_notification *
     }
 }
 
-/* More entries than there can be. Of a single day of 50 periods the 51st is the first at fault, elsewhere one before it. */
+/* 50 entries, or more than there can be. Of a single day of 50 periods the 51st is the first at fault, elsewhere one before it. */
 static void give_too_many_entries(const ghendufika_setup *setup, ghendufika_notification *n) {
     bool of_a_long_day = !one_in(4);
     for (unsigned day = 0; day < setup->days && day < MOST_DAYS; day++)
