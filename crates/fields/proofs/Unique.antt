@@ -4,6 +4,7 @@ use Rattle.laws.proofs.Cases.{one-outcome}
 use Rattle.laws.proofs.Promises.{OneOutcome, OneResult}
 use Rattle.fields.proofs.read_field.Reads as read-field
 use Rattle.fields.proofs.write_field.Reads as write-field
+use Rattle.fields.proofs.read_long.Reads as read-long
 use Rattle.fields.proofs.read_fields.Reads as read-fields
 use Rattle.fields.proofs.write_fields.Reads as write-fields
 use Rattle.fields.proofs.volume_of_bits.Reads as volume-of-bits
@@ -12,6 +13,9 @@ use Rattle.fields.proofs.bits_of_volume.Reads as bits-of-volume
 
 pub unique-read-field : OneResult read-field.Post
 unique-read-field κs a r r′ s s′ = one-outcome
+
+pub unique-read-long : OneResult read-long.Post
+unique-read-long κs a r r′ s s′ = one-outcome
 
 pub unique-write-field : OneOutcome write-field.Post (λ κs r s. now (s .0))
 unique-write-field κs a r r′ s s′ = one-outcome

@@ -1,90 +1,30 @@
-// Fields packed into bytes, most significant bit first (words, Fields.antt). A field has at most 32 bits, and a call reads or writes at most 64
-// fields. Past the end of the bytes a bit is 0, and writing one changes nothing, so no caller owes an index.
+// Fields packed into bytes, most significant bit first (words, Fields.antt). A field has at most 32 bits, or 56 by `read_long`, and a call reads or
+// writes at most 64 fields. Past the end of the bytes a bit is 0, and writing one changes nothing, so no caller owes an index.
+mod whole_bytes; // whole_bytes.rt: one field, by whole bytes joined and cut
+
 ghost use mathlib.Core.Path.{_≡_};
-ghost use Prim.Native.Nat.{_+_, _*_, _%_, _≤_, _<_, _^_, min};
+ghost use Prim.Native.Nat.{_+_, _%_, _<_, _^_, min};
 ghost use lib.Signed.{mag};
-ghost use Rattle.words.specs.Fields.{weight, bitAt, fieldAt, withBit, setBit, setField, fitsSigned, signedOf, bitsOf};
+ghost use Rattle.words.specs.Fields.{fieldAt, setField, fitsSigned, signedOf, bitsOf};
 ghost use Rattle.fields.specs.Narrow.{narrow, fewest, readInto, writeFrom, volumeBits};
 
 const WIDEST_FIELD: usize = 32;
 
+// Eight bytes hold as many bits, whichever bit of the first byte they begin with.
+const LONGEST_FIELD: usize = 56;
+
 const MOST_FIELDS: usize = 64;
 
-const VOLUME_SPAN: i32 = 268435456;
+// 28 bits say so many volumes, so many of them below zero.
+const VOLUMES: u32 = 268435456;
 
-const VOLUME_HALF: i32 = 134217728;
+const VOLUMES_BELOW_ZERO: u32 = 134217728;
+
+const VOLUME_SPAN: i32 = VOLUMES as i32;
+
+const VOLUME_HALF: i32 = VOLUMES_BELOW_ZERO as i32;
 
 const VOLUME_LEAST: i32 = -134217728;
-
-// The weight of bit p in its byte.
-fn weight_of(p: usize) -> u32
-    ensures { λ r. ⌜ r ≡ weight p ⌝ }
-{
-    let k = (p % 8) as u32;
-    128u32 >> k
-}
-
-// Bit p, 0 past the end.
-fn bit(src: &[u8], p: usize) -> u32
-    ensures { λ r. ⌜ r ≡ bitAt (now (src .entry)) p ⌝ }
-{
-    let i = p / 8;
-    if i < src.len() {
-        let m = weight_of(p);
-        let x = src[i] as u32;
-        x / m % 2
-    } else {
-        0
-    }
-}
-
-// The field of `width` bits from bit `at` on, picked out bit by bit.
-fn read_bits(src: &[u8], at: usize, width: usize) -> u32
-    requires { ⌜ (width ≤ 32) × (at + width < 2 ^ 64) ⌝ }
-    ensures { λ r. ⌜ r ≡ fieldAt (now (src .entry)) at width ⌝ }
-{
-    let mut value: u32 = 0;
-    let mut i: usize = 0;
-    while i < width {
-        value = value * 2 + bit(src, at + i);
-        i += 1;
-    }
-    value
-}
-
-// Byte x with bit p of the bytes, which stands in it, made b.
-fn with_bit(x: u8, p: usize, b: u32) -> u8
-    requires { ⌜ b < 2 ⌝ }
-    ensures { λ r. ⌜ r ≡ withBit x (weight p) b ⌝ }
-{
-    let m = weight_of(p);
-    let v = x as u32;
-    ((v / m / 2 * 2 + b) * m + v % m) as u8
-}
-
-// Bit p made b; nothing past the end.
-fn put_bit(dst: &mut [u8], p: usize, b: u32)
-    requires { ⌜ b < 2 ⌝ }
-    ensures { λ r. ⌜ now (dst .exit) ≡ setBit (now (dst .entry)) p b ⌝ }
-{
-    let i = p / 8;
-    if i < dst.len() {
-        dst[i] = with_bit(dst[i], p, b);
-    }
-}
-
-// The field of `width` bits from bit `at` on made `value`.
-fn write_bits(dst: &mut [u8], at: usize, width: usize, value: u32)
-    requires { ⌜ (width ≤ 32) × (at + width < 2 ^ 64) ⌝ }
-    ensures { λ r. ⌜ now (dst .exit) ≡ setField (now (dst .entry)) at width value ⌝ }
-{
-    let mut i: usize = 0;
-    while i < width {
-        let k = (width - 1 - i) as u32;
-        put_bit(dst, at + i, (value >> k) % 2);
-        i += 1;
-    }
-}
 
 // A width, at most 32.
 fn narrowed(width: u8) -> usize
@@ -112,7 +52,15 @@ pub fn read_field(src: &[u8], at: u32, width: u8) -> u32
     ensures { λ r. ⌜ r ≡ fieldAt (now (src .entry)) at (narrow width) ⌝ }
 {
     let w = narrowed(width);
-    read_bits(src, at as usize, w)
+    whole_bytes::read_bits(src, at as usize, w)
+}
+
+// The same of at most 56 bits, so that fields which stand together are read at once.
+pub fn read_long(src: &[u8], at: u32, width: u8) -> u64
+    ensures { λ r. ⌜ r ≡ fieldAt (now (src .entry)) at (min width 56) ⌝ }
+{
+    let w = lesser(width as usize, LONGEST_FIELD);
+    whole_bytes::read_long(src, at as usize, w)
 }
 
 // The field of `width` bits, at most 32, from bit `at` on made `value`.
@@ -120,7 +68,7 @@ pub fn write_field(dst: &mut [u8], at: u32, width: u8, value: u32)
     ensures { λ r. ⌜ now (dst .exit) ≡ setField (now (dst .entry)) at (narrow width) value ⌝ }
 {
     let w = narrowed(width);
-    write_bits(dst, at as usize, w, value);
+    whole_bytes::write_bits(dst, at as usize, w, value);
 }
 
 // The fields of these widths from bit `at` on, one after the other.
@@ -132,7 +80,7 @@ pub fn read_fields(src: &[u8], at: u32, widths: &[u8], out: &mut [u32])
     let mut i: usize = 0;
     while i < n {
         let w = narrowed(widths[i]);
-        out[i] = read_bits(src, p, w);
+        out[i] = whole_bytes::read_bits(src, p, w);
         p += w;
         i += 1;
     }
@@ -147,7 +95,7 @@ pub fn write_fields(dst: &mut [u8], at: u32, widths: &[u8], values: &[u32])
     let mut i: usize = 0;
     while i < n {
         let w = narrowed(widths[i]);
-        write_bits(dst, p, w, values[i]);
+        whole_bytes::write_bits(dst, p, w, values[i]);
         p += w;
         i += 1;
     }
@@ -157,12 +105,7 @@ pub fn write_fields(dst: &mut [u8], at: u32, widths: &[u8], values: &[u32])
 pub fn volume_of_bits(v: u32) -> i32
     ensures { λ r. ⌜ r ≡ signedOf 27 (v % 268435456) ⌝ }
 {
-    let n = v % 268435456;
-    if n < 134217728 {
-        n as i32
-    } else {
-        n as i32 - VOLUME_SPAN
-    }
+    ((v % VOLUMES + VOLUMES_BELOW_ZERO) % VOLUMES) as i32 - VOLUME_HALF
 }
 
 // A whole number that has room in 28 bits. No branch.
