@@ -1,4 +1,4 @@
-// The layouts' sizes: bits, bytes and padding of a message of a kind and a number of entries.
+// The layouts: where a message's fields stand, and the bits, bytes and padding of one of a kind and a number of entries.
 use limits::numbers;
 ghost use mathlib.Core.Path.{_≡_};
 ghost use Rattle.words.specs.Fields.{total, bytesFor, padding};
@@ -10,9 +10,33 @@ pub const NOTIFICATION_WIDTHS: [u8; 9] = [2, 6, 8, 16, 6, 16, 16, 16, 6];
 // "Nullification: kind 2 (2), account 6, account 6, first day 16"
 pub const NULLIFICATION_WIDTHS: [u8; 4] = [2, 6, 6, 16];
 
+// The places of a notification's fields: each begins where the one before it ends, and the entries behind the last.
+pub const AUTHORISATION_AT: u32 = 2;
+
+pub const AGENT_AT: u32 = 8;
+
+pub const KEY_AT: u32 = 16;
+
+pub const ORIGINATOR_AT: u32 = 32;
+
+pub const REFERENCE_AT: u32 = 38;
+
+pub const FIRST_DAY_AT: u32 = 54;
+
+pub const LAST_DAY_AT: u32 = 70;
+
+pub const COUNT_AT: u32 = 86;
+
 pub const NOTIFICATION_BITS: u32 = 92;
 
 pub const ENTRY_BITS: u32 = 34;
+
+// The places of a nullification's fields.
+pub const ACCOUNT_AT: u32 = 2;
+
+pub const OTHER_ACCOUNT_AT: u32 = 8;
+
+pub const NULLIFIED_FROM_AT: u32 = 14;
 
 const NULLIFICATION_BITS: u32 = 30;
 
