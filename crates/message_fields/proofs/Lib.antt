@@ -1,2 +1,3 @@
--- That the promise leaves no choice.
+-- Laws that the functions' proofs share, and that the promise leaves no choice.
+pub mod FieldLaws
 pub mod Unique

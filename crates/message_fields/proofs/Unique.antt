@@ -1,7 +1,7 @@
 -- A field has one value: any two that keep the promise are equal.
 use Rattle.laws.proofs.Cases.{one-outcome}
 use Rattle.laws.proofs.Promises.{OneResult}
-use Rattle.message_fields.proofs.message_field.Reads as message-field
+use Rattle.message_fields.proofs.field_in.Reads as field-in
 
-pub unique-message-field : OneResult message-field.Post
-unique-message-field κs a r r′ s s′ = one-outcome
+pub unique-field-in : OneResult field-in.Post
+unique-field-in κs a r r′ s s′ = one-outcome

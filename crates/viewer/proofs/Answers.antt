@@ -1,19 +1,11 @@
--- The message of a `MessageRead`; and a mark as its numbers.
-use mathlib.Core.Path.{_≡_, refl, ap}
+-- A mark as its numbers.
+use mathlib.Core.Path.{_≡_, ap}
 use Prim.Native.Nat.{ℕ}
 use lib.Ieee.{Float}
-use Rattle.meaning.specs.PackedMessages.{Packed, Reading}
-use Rattle.messages.specs.Structs.{messageFor}
-use Rattle.message_reading.specs.Structs.{messageRead}
 use Rattle.bar.specs.Figures.{caseOf, firstOf, secondOf}
 use Rattle.marks.specs.declared.Marked.{Marked}
 use Rattle.viewer.specs.Numbers.{markNumbers}
 use Rattle.viewer.specs.declared.MarkNumbers.{MarkNumbers}
-
-module _ (r : Reading Packed) where
-  pub message-read : messageRead r .message ≡ messageFor (r .read)
-  unfolding messageRead
-  message-read = refl
 
 -- the number and the two figures of a mark's bar
 pub numbers-of : (m x : Marked) {number : ℕ} {first second : Float}

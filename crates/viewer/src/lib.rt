@@ -43,6 +43,5 @@ pub extern "C" fn ghendufika_message_length(bytes: &[u8]) -> usize
 pub extern "C" fn ghendufika_message_field(bytes: &[u8], field: u32) -> i64
     ensures { λ r. ⌜ r ≡ fieldIn (readMessage (now (bytes .entry)) .read) field ⌝ }
 {
-    let read = message_reading::read_message(bytes);
-    message_fields::message_field(read.message, field)
+    message_fields::field_in(bytes, field)
 }
