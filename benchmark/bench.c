@@ -1,6 +1,7 @@
 /* The proved code against its twin in C, in one run: `bench` prints nanoseconds and ratios, `bench ratios` ratios alone, for an emulator, whose times say
  * nothing. Every round does the same work with both, in turns, and holds what they answered and left in the tables against each other: a difference
- * ends the program. The best of the rounds counts, since noise only adds. */
+ * ends the program. The best of the rounds counts, since noise only adds. Compiled with EARLIER it does the same with a third, the proved code of an
+ * earlier commit, whose exports are linked under other names (../bench). */
 #include "inputs.h"
 #include "twin.h"
 
@@ -21,6 +22,7 @@ typedef struct {
     uint8_t (*message_refusal)(const uint8_t *, size_t);
     size_t (*message_length)(const uint8_t *, size_t);
     int64_t (*message_field)(const uint8_t *, size_t, uint32_t);
+    ghendufika_message_read (*read_message)(const uint8_t *, size_t);
     bool (*is_sound)(ghendufika_book, const uint32_t *, size_t, const int32_t *, size_t, const int32_t *, size_t);
     ghendufika_applied (*apply)(ghendufika_book, const uint8_t *, size_t, uint32_t *, size_t, int32_t *, size_t, int32_t *, size_t);
     ghendufika_applied_all (*apply_all)(ghendufika_book, const uint8_t *, size_t, uint32_t *, size_t, int32_t *, size_t, int32_t *, size_t, uint8_t *, size_t, uint8_t *, size_t);
@@ -32,25 +34,56 @@ typedef struct {
     ghendufika_opened (*open_checked)(ghendufika_setup, uint32_t *, size_t, int32_t *, size_t, int32_t *, size_t);
 } calls;
 
-static const calls proved = {ghendufika_message_refusal, ghendufika_message_length, ghendufika_message_field, ghendufika_is_sound, ghendufika_apply,
-                             ghendufika_apply_all,       ghendufika_total,          ghendufika_day_totals,    ghendufika_figures,  ghendufika_day_length,
-                             ghendufika_open,            ghendufika_open_checked};
-static const calls plain = {twin_message_refusal, twin_message_length, twin_message_field, twin_is_sound,   twin_apply, twin_apply_all,
-                            twin_total,           twin_day_totals,     twin_figures,       twin_day_length, twin_open,  twin_open_checked};
+#define CALLS(prefix)                                                                                                                                  \
+    {prefix##message_refusal, prefix##message_length, prefix##message_field, prefix##read_message, prefix##is_sound, prefix##apply, prefix##apply_all, \
+     prefix##total,           prefix##day_totals,     prefix##figures,       prefix##day_length,   prefix##open,     prefix##open_checked}
 
-/* One of the two: its calls, its tables and what it was answered. */
+static const calls proved = CALLS(ghendufika_), plain = CALLS(twin_);
+
+#ifdef EARLIER
+/* An export of the earlier commit takes and gives what it does now. */
+#define AS_NOW(name) extern __typeof__(ghendufika_##name) earlier_ghendufika_##name
+AS_NOW(message_refusal);
+AS_NOW(message_length);
+AS_NOW(message_field);
+AS_NOW(read_message);
+AS_NOW(is_sound);
+AS_NOW(apply);
+AS_NOW(apply_all);
+AS_NOW(total);
+AS_NOW(day_totals);
+AS_NOW(figures);
+AS_NOW(day_length);
+AS_NOW(open);
+AS_NOW(open_checked);
+static const calls earlier = CALLS(earlier_ghendufika_);
+#endif
+
+/* One of those that do the work: its calls, its tables and what it was answered. */
 typedef struct {
-    const calls *with;
+    _Alignas(64) const calls *with; /* aligned, so that the tables of all lie alike */
     ghendufika_book book;
     uint32_t held[GHENDUFIKA_MOST_SLOTS];
     int32_t side1[MOST_PLACES], side2[MOST_PLACES];
     uint8_t answers[MOST_MESSAGES], places[MOST_MESSAGES];
     int64_t results[MOST_RESULTS];
     double figures[3];
-    uint8_t lengths[DAYS_OF_CALENDAR];
+    uint8_t lengths[DAYS_OF_CALENDAR]; /* of days or of messages */
+    ghendufika_message_read read;      /* the last message of a run */
+    const char *name;                  /* of its column */
 } worker;
 
-static worker ours = {.with = &proved}, twin = {.with = &plain}, fresh; /* `fresh` is how both begin a round */
+static worker workers[] = {
+    {.name = "ours", .with = &proved},
+    {.name = "C", .with = &plain},
+#ifdef EARLIER
+    {.name = "before", .with = &earlier},
+#endif
+};
+
+enum { OURS, TWIN, BEFORE, WORKERS = sizeof workers / sizeof *workers }; /* without EARLIER there is none at BEFORE */
+
+static worker fresh = {.with = &proved}; /* how all of them begin a round */
 static size_t slots, lent;
 static run_of_messages run;
 
@@ -61,7 +94,7 @@ static void give_up(const char *why) {
     exit(1);
 }
 
-/* ---- the same in both */
+/* ---- the same in all */
 
 static bool same_row(const ghendufika_authorisation *a, const ghendufika_authorisation *b) {
     return a->agent1 == b->agent1 && a->agent2 == b->agent2 && a->account1 == b->account1 && a->account2 == b->account2 && a->key == b->key && a->first == b->first &&
@@ -77,15 +110,44 @@ static bool same_book(const ghendufika_book *a, const ghendufika_book *b) {
     return same;
 }
 
+static bool same_head(const ghendufika_notification *a, const ghendufika_notification *b) {
+    return a->authorisation == b->authorisation && a->agent == b->agent && a->key == b->key && a->originator == b->originator && a->reference == b->reference &&
+           a->first == b->first && a->last == b->last && a->count == b->count;
+}
+
+/* Every entry, those past the count too, which are zero. */
+static bool same_reading(const ghendufika_message_read *a, const ghendufika_message_read *b) {
+    const ghendufika_message *m = &a->message, *n = &b->message;
+    bool same = a->answer == b->answer && a->length == b->length && m->kind == n->kind && same_head(&m->notification, &n->notification);
+    for (unsigned k = 0; k < GHENDUFIKA_MOST_ENTRIES; k++) {
+        const ghendufika_entry *e = &m->notification.entries[k], *f = &n->notification.entries[k];
+        same = same && e->period == f->period && e->volume == f->volume;
+    }
+    return same && m->nullification.account == n->nullification.account && m->nullification.other == n->nullification.other &&
+           m->nullification.first == n->nullification.first;
+}
+
+static bool same_tables(const worker *a, const worker *b) {
+    return memcmp(a->held, b->held, slots * sizeof *a->held) == 0 && memcmp(a->side1, b->side1, lent * sizeof *a->side1) == 0 &&
+           memcmp(a->side2, b->side2, lent * sizeof *a->side2) == 0;
+}
+
+static bool same_answers(const worker *a, const worker *b) {
+    return memcmp(a->answers, b->answers, sizeof a->answers) == 0 && memcmp(a->places, b->places, sizeof a->places) == 0 &&
+           memcmp(a->results, b->results, sizeof a->results) == 0 && memcmp(a->figures, b->figures, sizeof a->figures) == 0 &&
+           memcmp(a->lengths, b->lengths, sizeof a->lengths) == 0;
+}
+
+static void stop_at_difference(const char *job, const worker *other) {
+    fprintf(stderr, "bench: %s: %s and %s differ, so their times say nothing\n", job, workers[OURS].name, other->name);
+    exit(1);
+}
+
 static void hold_against_each_other(const char *job) {
-    bool same = same_book(&ours.book, &twin.book) && memcmp(ours.held, twin.held, slots * sizeof *ours.held) == 0 &&
-                memcmp(ours.side1, twin.side1, lent * sizeof *ours.side1) == 0 && memcmp(ours.side2, twin.side2, lent * sizeof *ours.side2) == 0 &&
-                memcmp(ours.answers, twin.answers, sizeof ours.answers) == 0 && memcmp(ours.places, twin.places, sizeof ours.places) == 0 &&
-                memcmp(ours.results, twin.results, sizeof ours.results) == 0 && memcmp(ours.figures, twin.figures, sizeof ours.figures) == 0 &&
-                memcmp(ours.lengths, twin.lengths, sizeof ours.lengths) == 0;
-    if (same) return;
-    fprintf(stderr, "bench: %s: ", job);
-    give_up("the two differ, so their times say nothing");
+    const worker *ours = &workers[OURS];
+    for (const worker *other = ours + 1; other < workers + WORKERS; other++)
+        if (!same_book(&ours->book, &other->book) || !same_tables(ours, other) || !same_answers(ours, other) || !same_reading(&ours->read, &other->read))
+            stop_at_difference(job, other);
 }
 
 static void begin(worker *w) {
@@ -112,6 +174,19 @@ static void ask_lengths(worker *w) {
         w->answers[k] = (uint8_t)length;
         at += length;
     }
+}
+
+/* Only the last message is kept, since to copy each would be a good part of the time. `check_every_reading` looks at all of them. */
+static void read_whole(worker *w) {
+    size_t at = 0;
+    ghendufika_message_read read = {.answer = 0};
+    for (size_t k = 0; k < run.messages; k++) {
+        read = w->with->read_message(run.bytes + at, run.length - at);
+        w->answers[k] = read.answer;
+        w->lengths[k] = (uint8_t)read.length;
+        at += read.length;
+    }
+    w->read = read;
 }
 
 /* Its kind, its head and its 50 periods and volumes, each asked apart. */
@@ -208,41 +283,67 @@ static double time_of(void (*job)(worker *), size_t units, worker *w) {
 static double lesser(double a, double b) { return a < b ? a : b; }
 
 typedef struct {
-    double ours, twin; /* nanoseconds for each of the job's units */
+    double of[WORKERS]; /* nanoseconds for each of the job's units */
 } measured;
 
 /* A round of each first, which is not counted: it brings code and tables into the caches. */
 static measured measure(const char *name, void (*job)(worker *), size_t units) {
-    measured best = {1e9, 1e9};
-    time_of(job, units, &ours);
-    time_of(job, units, &twin);
+    measured best;
+    for (int w = 0; w < WORKERS; w++) {
+        time_of(job, units, &workers[w]);
+        best.of[w] = 1e9;
+    }
     for (int k = 0; k < rounds; k++) {
-        best.ours = lesser(best.ours, time_of(job, units, &ours));
-        best.twin = lesser(best.twin, time_of(job, units, &twin));
+        for (int w = 0; w < WORKERS; w++) best.of[w] = lesser(best.of[w], time_of(job, units, &workers[w]));
         hold_against_each_other(name);
     }
-    return (measured){1e9 * best.ours / (double)units, 1e9 * best.twin / (double)units};
+    for (int w = 0; w < WORKERS; w++) best.of[w] *= 1e9 / (double)units;
+    return best;
 }
 
 static double measure_plain_read(void) {
     double best = 1e9;
-    time_of(read_tables, 1, &twin);
-    for (int k = 0; k < rounds; k++) best = lesser(best, time_of(read_tables, 1, &twin));
+    time_of(read_tables, 1, &workers[TWIN]);
+    for (int k = 0; k < rounds; k++) best = lesser(best, time_of(read_tables, 1, &workers[TWIN]));
     return 1e9 * best;
 }
 
 /* ---- printing */
 
+static void print_head(const char *first) {
+    printf("%-52s%9s ns%9s ns%9s", first, workers[OURS].name, workers[TWIN].name, "ratio");
+    for (int w = BEFORE; w < WORKERS; w++) printf("%9s ns%9s", workers[w].name, "ratio");
+    printf("\n");
+}
+
+static void print_time(double nanoseconds) {
+    if (ratios_only) printf("%12s", "-");
+    else printf("%12.1f", nanoseconds);
+}
+
 static void print_times(const char *name, double first, double second) {
     printf("%-52s", name);
-    if (ratios_only) printf("%12s%12s", "-", "-");
-    else printf("%12.1f%12.1f", first, second);
-    printf("%9.2f\n", first / second);
+    print_time(first);
+    print_time(second);
+    printf("%9.2f", first / second);
+}
+
+/* Two times of each, one against the other: a line each. */
+static void print_against(const char *const names[], measured first, measured second) {
+    for (int w = 0; w < WORKERS; w++) {
+        print_times(names[w], first.of[w], second.of[w]);
+        printf("\n");
+    }
 }
 
 static measured print_job(const char *name, void (*job)(worker *), size_t units) {
     measured m = measure(name, job, units);
-    print_times(name, m.ours, m.twin);
+    print_times(name, m.of[OURS], m.of[TWIN]);
+    for (int w = BEFORE; w < WORKERS; w++) {
+        print_time(m.of[w]);
+        printf("%9.2f", m.of[w] / m.of[TWIN]);
+    }
+    printf("\n");
     return m;
 }
 
@@ -259,7 +360,7 @@ static void take(run_of_messages next) {
     run = next;
 }
 
-/* Both begin with this book, opened and, where there is something to fill it, filled. */
+/* All begin with this book, opened and, where there is something to fill it, filled. */
 static void take_book(ghendufika_setup setup, size_t its_slots, bool filled) {
     slots = its_slots;
     lent = slots * setup.days * GHENDUFIKA_PLACES_A_DAY;
@@ -268,7 +369,6 @@ static void take_book(ghendufika_setup setup, size_t its_slots, bool filled) {
     fresh.book = opened.book;
     if (!filled) return;
     take(filling(&setup, slots));
-    fresh.with = &proved;
     apply_all(&fresh);
 }
 
@@ -285,24 +385,55 @@ static void take_long_notifications(ghendufika_setup setup) {
 
 /* What a run is made of, as the twin sees it. */
 static void print_mixture(const char *name) {
+    worker *twin = &workers[TWIN];
     memset(twin_accepted, 0, sizeof twin_accepted);
-    begin(&twin);
-    apply_all(&twin);
+    begin(twin);
+    apply_all(twin);
     printf("%s: %zu messages in %zu bytes; accepted %zu initial, %zu replacements, %zu additional; %d gates closed\n", name, run.messages, run.length, twin_accepted[1],
-           twin_accepted[2], twin_accepted[3], twin.book.closed - fresh.book.closed);
+           twin_accepted[2], twin_accepted[3], twin->book.closed - fresh.book.closed);
 }
 
-/* Where both forget a place they agree, so that the run has all of them is asked apart: under 10 and under 11, each at every entry. */
+/* Where all forget a place they agree, so that the run has all of them is asked apart: under 10 and under 11, each at every entry. */
 static void check_every_place(void) {
+    const worker *ours = &workers[OURS];
     bool seen[2][GHENDUFIKA_MOST_ENTRIES] = {{false}};
     for (size_t k = 0; k < run.messages; k++) {
-        bool by_volume = ours.answers[k] == GHENDUFIKA_VOLUME_WRONG;
-        if (!by_volume && ours.answers[k] != GHENDUFIKA_PERIOD_WRONG) give_up("a notification with a wrong entry was not refused for it");
-        if (ours.places[k] >= GHENDUFIKA_MOST_ENTRIES) give_up("a place is told that no packed notification has");
-        seen[by_volume][ours.places[k]] = true;
+        bool by_volume = ours->answers[k] == GHENDUFIKA_VOLUME_WRONG;
+        if (!by_volume && ours->answers[k] != GHENDUFIKA_PERIOD_WRONG) give_up("a notification with a wrong entry was not refused for it");
+        if (ours->places[k] >= GHENDUFIKA_MOST_ENTRIES) give_up("a place is told that no packed notification has");
+        seen[by_volume][ours->places[k]] = true;
     }
     for (unsigned entry = 0; entry < GHENDUFIKA_MOST_ENTRIES; entry++)
         if (!seen[0][entry] || !seen[1][entry]) give_up("an entry was never the one at fault");
+}
+
+/* Leaves no zeros where the next call has its variables, so that a zero which it forgets to write is seen. */
+__attribute__((noinline)) static void dirty_the_stack(void) {
+    volatile uint8_t below[4096];
+    for (size_t k = 0; k < sizeof below; k++) below[k] = 0xff;
+}
+
+static void hold_readings_against_each_other(const uint8_t *bytes, size_t length) {
+    const worker *ours = &workers[OURS];
+    dirty_the_stack();
+    ghendufika_message_read read = ours->with->read_message(bytes, length);
+    for (const worker *other = ours + 1; other < workers + WORKERS; other++) {
+        dirty_the_stack();
+        ghendufika_message_read others = other->with->read_message(bytes, length);
+        if (!same_reading(&read, &others)) stop_at_difference("a message read whole", other);
+    }
+}
+
+/* Each message of the run, and each without its last byte, which is refused and gives zeros. */
+static void check_every_reading(void) {
+    size_t at = 0;
+    for (size_t k = 0; k < run.messages; k++) {
+        size_t length = ghendufika_message_length(run.bytes + at, run.length - at);
+        if (length == 0) give_up("a message is refused that should be read");
+        hold_readings_against_each_other(run.bytes + at, run.length - at);
+        hold_readings_against_each_other(run.bytes + at, length - 1);
+        at += length;
+    }
 }
 
 /* ---- the tables that are printed */
@@ -314,6 +445,8 @@ static void print_reading(void) {
     take(full_notifications(&setup, 1000));
     print_job("refusal of a 50-entry notification", ask_refusals, run.messages);
     print_job("its length", ask_lengths, run.messages);
+    print_job("a 50-entry notification read whole", read_whole, run.messages);
+    check_every_reading();
     print_job("all its 109 fields, each asked apart", ask_all_fields, 1);
     print_job("1000 such, read and applied to 4 slots, each", apply_all, run.messages);
     take(refused_notifications(&setup, 1000));
@@ -327,12 +460,14 @@ static void print_long_notifications(void) {
     measured changing = print_job("1000 of 48 entries on days of 46, 48 and 50, each", apply_all, run.messages);
     take_long_notifications(plain_setup_of(4, 8));
     measured unchanging = print_job("the same 1000 on days of 48 only, each", apply_all, run.messages);
-    print_times("  ours, with a short and a long day against without", changing.ours, unchanging.ours);
-    print_times("  the twin's, with them against without", changing.twin, unchanging.twin);
+    static const char *const names[] = {"  ours, with a short and a long day against without", "  the twin's, with them against without",
+                                        "  before, with them against without"};
+    print_against(names, changing, unchanging);
 }
 
 static void print_runs(void) {
     take_traded_book(16, 2, 1000);
+    check_every_reading(); /* here are the other kinds, and notifications of fewer entries */
     print_job("1000 messages, 16 slots of 2 days, each", apply_all, run.messages);
     take_traded_book(256, 8, 1000);
     print_job("1000 messages, 256 slots of 8 days, each", apply_all, run.messages);
@@ -343,9 +478,11 @@ static void print_runs(void) {
 static void print_questions(void) {
     print_job("soundness of the full book", ask_soundness, 1);
     measured sound = measure("soundness", ask_soundness, 1);
-    double read = measure_plain_read();
-    print_times("  against a plain read of both sides", sound.ours, read);
-    print_times("  the twin's, against that plain read", sound.twin, read);
+    double once = measure_plain_read();
+    measured read = {.of = {0}};
+    for (int w = 0; w < WORKERS; w++) read.of[w] = once;
+    static const char *const names[] = {"  against a plain read of both sides", "  the twin's, against that plain read", "  before, against that plain read"};
+    print_against(names, sound, read);
     print_job("a total of the full book", ask_total, 1);
     print_job("a day's totals of the full book", ask_day_totals, 1);
     print_job("a day's figures of the full book", ask_figures, 1);
@@ -357,8 +494,8 @@ static void print_calendar(void) {
     print_job("length of a day, each day of 2000 to 2099", ask_day_lengths, DAYS_OF_CALENDAR);
     measured unchecked = print_job("opening 1 slot of 8 days", open_again, 1);
     measured checked = print_job("the same, checked against the calendar", open_again_checked, 1);
-    print_times("  ours, checked against unchecked", checked.ours, unchecked.ours);
-    print_times("  the twin's, checked against unchecked", checked.twin, unchecked.twin);
+    static const char *const names[] = {"  ours, checked against unchecked", "  the twin's, checked against unchecked", "  before, checked against unchecked"};
+    print_against(names, checked, unchecked);
 }
 
 static void print_all_growth(void) {
@@ -384,13 +521,14 @@ static void print_all_growth(void) {
 int main(int argc, char **argv) {
     ratios_only = argc > 1 && strcmp(argv[1], "ratios") == 0;
     if (ratios_only) rounds = 5;
-    printf("%-52s%12s%12s%9s\n", "job", "ours ns", "C ns", "ratio");
+    print_head("job");
     print_reading();
     print_long_notifications();
     print_runs();
     print_questions();
     print_calendar();
-    printf("\n%-52s%12s%12s%9s\n", "growth", "ours ns", "C ns", "ratio");
+    printf("\n");
+    print_head("growth");
     print_all_growth();
     printf("\n");
     take_long_notifications(setup_of(4, 8));

@@ -140,6 +140,48 @@ int64_t twin_message_field(const uint8_t *bytes, size_t length, uint32_t field) 
     return 0;
 }
 
+static void write_entries(ghendufika_entry *to, const uint8_t *bytes, size_t whole, unsigned count) {
+    unsigned k = 0;
+    for (; k < count; k++) {
+        uint64_t entry = entry_in(bytes, whole, k);
+        to[k].period = (uint8_t)period_of(entry);
+        to[k].volume = volume_of(entry);
+    }
+    for (; k < MOST_ENTRIES; k++) to[k] = (ghendufika_entry){0, 0};
+}
+
+static void write_notification(ghendufika_notification *to, const uint8_t *bytes, size_t whole) {
+    head n = head_in(bytes);
+    to->authorisation = (uint8_t)n.authorisation;
+    to->agent = (uint8_t)n.agent;
+    to->key = (uint16_t)n.key;
+    to->originator = (uint8_t)n.originator;
+    to->reference = (uint16_t)n.reference;
+    to->first = (uint16_t)n.first;
+    to->last = (uint16_t)n.last;
+    to->count = (uint8_t)n.count;
+    write_entries(to->entries, bytes, whole, n.count);
+}
+
+static ghendufika_nullification nullification_in(const uint8_t *bytes) {
+    return (ghendufika_nullification){(uint8_t)first_account(bytes), (uint8_t)second_account(bytes), (uint16_t)nullified_from(bytes)};
+}
+
+/* Nothing is cleared that is written anyway: a notification of 50 entries is nearly all of the struct. */
+ghendufika_message_read twin_read_message(const uint8_t *bytes, size_t length) {
+    ghendufika_message_read read;
+    size_t whole;
+    read.answer = refusal_of_message(bytes, length, &whole);
+    read.length = whole;
+    read.message.kind = read.answer == 0 ? bytes[0] >> 6 : 0;
+    if (read.message.kind == GHENDUFIKA_NOTIFICATION)
+        write_notification(&read.message.notification, bytes, whole);
+    else
+        memset(&read.message.notification, 0, sizeof read.message.notification);
+    read.message.nullification = read.message.kind == GHENDUFIKA_NULLIFICATION ? nullification_in(bytes) : (ghendufika_nullification){0, 0, 0};
+    return read;
+}
+
 /* ---- the calendar */
 
 enum { LAST_DAY = GHENDUFIKA_LAST_CALENDAR_DAY, SUNDAY = 1, WEEK = 7, FOUR_YEARS = 1461, FROM_APRIL = 275, FROM_NOVEMBER = 61 };

@@ -9,6 +9,8 @@ uint8_t twin_message_refusal(const uint8_t *bytes, size_t length);
 size_t twin_message_length(const uint8_t *bytes, size_t length);
 int64_t twin_message_field(const uint8_t *bytes, size_t length, uint32_t field);
 
+ghendufika_message_read twin_read_message(const uint8_t *bytes, size_t length);
+
 ghendufika_measured twin_day_length(uint32_t day);
 
 ghendufika_opened twin_open(ghendufika_setup setup, uint32_t *held, size_t slots, int32_t *side1, size_t lent1, int32_t *side2, size_t lent2);
