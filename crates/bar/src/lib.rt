@@ -1,12 +1,14 @@
 // The bar of one place: "Blank, OneSide, Agreed or Disagreed with its MWh (two figures for Disagreed, side 1 first)", and the number and the values of
 // each case.
+#![tactic(auto)]
+
 ghost use Rattle.std.specs.Prelude.{◌≡◌};
 ghost use Rattle.meaning.specs.Totals.{seen_by, mwh};
 ghost use Rattle.setups.specs.Structs.{row_of};
 ghost use Rattle.bar.specs.Figures.{case_of, first_of, second_of, bar_seen};
 
 // A figure in MWh, seen from the asking account; two for Disagreed, side 1 first.
-#[derive(Drop)]
+#[derive(Clone, Copy)]
 pub enum Bar {
     Blank,
     OneSide(f64),

@@ -34,7 +34,7 @@ clock-time b e = ap time_of e
 
 module _ (b : Book) (g : Is (row Held.the_type) b (vals Held.the_type HeldLaws.the_laws b)) where
   pub rows-length : length b.setup.rows ≡ 64
-  rows-length = simp length-map at (owed Held.the_type HeldLaws.the_laws b (vals Held.the_type HeldLaws.the_laws b) g).0.1.1.1.1.1.1.1.0.1.0.1
+  rows-length = (owed Held.the_type HeldLaws.the_laws b (vals Held.the_type HeldLaws.the_laws b) g).0.1.1.1.1.1.1.1.0.1.0.1
 
   pub days-few : b.setup.days < 256
   days-few = (owed Held.the_type HeldLaws.the_laws b (vals Held.the_type HeldLaws.the_laws b) g).0.1.1.1.0.1

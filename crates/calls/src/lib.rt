@@ -1,4 +1,6 @@
 // The calls on a book by value and its lent tables (meaning, Calls.antt and PackedCalls.antt).
+#![tactic(auto)]
+
 pub mod gates; // gates.rt: closing the next gate
 pub mod notifications; // notifications.rt: a notification's answer, and what it writes
 pub mod nullifications; // nullifications.rt: blanking a pair
@@ -7,7 +9,7 @@ mod sound_book; // sound_book.rt: what a book that is known to be sound does wit
 
 // With a refusal the book is as it came.
 #[repr(C)]
-#[derive(Drop)]
+#[derive(Clone, Copy)]
 pub struct Gated {
     pub answer: u8,
     pub book: book::Book,
@@ -16,7 +18,7 @@ pub struct Gated {
 // The kind is 1 initial, 2 replacement, 3 additional. With a refusal kind and slot are 0. The place is that of the first entry at fault, counted from
 // 0, with 10 and 11, and 0 with every other answer (02, A3).
 #[repr(C)]
-#[derive(Drop)]
+#[derive(Clone, Copy)]
 pub struct Notified {
     pub answer: u8,
     pub kind: u8,
@@ -27,7 +29,7 @@ pub struct Notified {
 // Kind and slot are those of an accepted notification, 0 of any other message; the length is that of the message. With a refusal the three are 0,
 // and the book is as it came; the place is as in Notified.
 #[repr(C)]
-#[derive(Drop)]
+#[derive(Clone, Copy)]
 pub struct Applied {
     pub answer: u8,
     pub kind: u8,
@@ -39,7 +41,7 @@ pub struct Applied {
 
 // How many answers were given, each with its place, how many bytes used, and the book after. With a refusal the counts are 0 and the book is as it came.
 #[repr(C)]
-#[derive(Drop)]
+#[derive(Clone, Copy)]
 pub struct AppliedAll {
     pub answer: u8,
     pub done: usize,

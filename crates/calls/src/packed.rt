@@ -11,7 +11,7 @@ use book::{Book, soundness};
 use limits::numbers;
 
 // The place is that of the entry at fault, with 10 and 11. The length is 0 exactly where the bytes are unreadable.
-#[derive(Drop)]
+#[derive(Clone, Copy)]
 struct Stepped {
     answer: u8,
     place: u8,

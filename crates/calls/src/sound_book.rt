@@ -17,7 +17,7 @@ use messages::layouts;
 use setups::authorisations;
 
 // What a message did. With a refusal kind and slot are 0, and the book is as it came; the place is the refusal's.
-#[derive(Drop)]
+#[derive(Clone, Copy)]
 pub(crate) struct Done {
     pub answer: u8,
     pub place: u8,

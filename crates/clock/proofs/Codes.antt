@@ -14,7 +14,7 @@ use Rattle.clock.specs.contracts.Clock.{the_type}
 use Rattle.clock.proofs.Clock.TheLaws.{the_laws}
 
 pub codes-length : (c : Clock) → Is (row the_type) c (vals the_type the_laws c) → length c.codes ≡ 8
-codes-length c g = simp length-map at (owed the_type the_laws c (vals the_type the_laws c) g).1.1.0.1.0.1
+codes-length c g = (owed the_type the_laws c (vals the_type the_laws c) g).1.1.0.1.0.1
 
 module _ (c : Clock) (d : ℕ) where
   -- a day of the book

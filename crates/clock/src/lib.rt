@@ -1,11 +1,13 @@
 // The settlement days of a book, their periods and the clock (meaning, Time.antt), by value.
+#![tactic(auto)]
+
 ghost use Rattle.std.specs.Prelude.{◌≡◌};
 ghost use Rattle.meaning.specs.Time.{periods_of_code, periods_at, is_period_at, gates_before, is_open_at, has_day, every_gate_closed, current_day};
 ghost use Rattle.clock.specs.Structs.{time_of};
 
 // The number of the first day, the first `days` codes, and the number of gates closed.
 #[repr(C)]
-#[derive(Drop)]
+#[derive(Clone, Copy)]
 pub struct Clock {
     pub first: u16,
     pub days: u8,

@@ -1,5 +1,7 @@
 // Words and decimal numbers as ASCII bytes in a lent buffer, from a place `at` on. Each answers the place after its text; where there is no room for the
 // whole of it, nothing is written and the place stays.
+#![tactic(auto)]
+
 ghost use Rattle.std.specs.Prelude.{◌≡◌, ◌+◌, ◌%◌, nat_abs, length};
 ghost use Rattle.meaning.specs.Decimals.{decimal};
 ghost use Rattle.decimals.specs.Texts.{has_room, Put};

@@ -1,5 +1,7 @@
 // Fields packed into bytes, most significant bit first (words, Fields.antt). A field has at most 32 bits, or 56 by `read_long`, and a call reads or
 // writes at most 64 fields. Past the end of the bytes a bit is 0, and writing one changes nothing, so no caller owes an index.
+#![tactic(auto)]
+
 mod whole_bytes; // whole_bytes.rt: one field, by whole bytes joined and cut
 
 ghost use Rattle.std.specs.Prelude.{◌≡◌, ◌+◌, ◌%◌, ◌<◌, ◌^◌, min};

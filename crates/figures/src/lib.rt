@@ -1,4 +1,6 @@
 // What a volume is for an account: "Matching, totals, marks" of one place (meaning, Totals.antt). Totals and bars both take these rules from here.
+#![tactic(auto)]
+
 ghost use Rattle.std.specs.Prelude.{◌≡◌};
 ghost use Rattle.meaning.specs.Authorisations.{in_pair};
 ghost use Rattle.meaning.specs.Totals.{matches, seen_by, mwh};

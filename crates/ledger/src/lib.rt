@@ -1,4 +1,6 @@
 // The lent tables of a book: where a side's table has a place, what it holds, and runs of places stored (meaning, Ledgers.antt).
+#![tactic(auto)]
+
 pub mod slots; // slots.rt: the identifier that a slot holds, and the slot of an identifier
 
 ghost use Rattle.std.specs.Prelude.{◌≡◌, suc, ◌-◌, min, get_or, replicate};

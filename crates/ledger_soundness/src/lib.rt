@@ -1,4 +1,6 @@
 // The soundness of lent tables: what stands in their places, and which identifiers are held (meaning, Soundness.antt).
+#![tactic(auto)]
+
 ghost use Rattle.std.specs.Prelude.{◌||◌, ◌≡◌, ℕ, ◌+◌, ◌≤◌, ◌<◌, length, get_or};
 ghost use Rattle.words.specs.Tests.{◌<?◌};
 ghost use Rattle.words.specs.Below.{every_below};

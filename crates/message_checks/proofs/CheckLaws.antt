@@ -46,7 +46,7 @@ module _ (n : Notification) (g : Is (row Note.the_type) n (vals Note.the_type No
   reference-fits = (owed Note.the_type NoteLaws.the_laws n (vals Note.the_type NoteLaws.the_laws n) g).1.1.1.1.0.1
 
   pub entries-length : length n.entries ≡ 50
-  entries-length = simp length-map at (owed Note.the_type NoteLaws.the_laws n (vals Note.the_type NoteLaws.the_laws n) g).1.1.1.1.1.1.1.1.0.1.0.1
+  entries-length = (owed Note.the_type NoteLaws.the_laws n (vals Note.the_type NoteLaws.the_laws n) g).1.1.1.1.1.1.1.1.0.1.0.1
 
 -- ---- the clock, which the code asks by value
 

@@ -27,7 +27,7 @@ use Rattle.messages.proofs.Notification.TheLaws.{the_laws}
 
 -- the array of entries has 50
 pub entries-length : (n : Notification) → Is (row the_type) n (vals the_type the_laws n) → length n.entries ≡ 50
-entries-length n g = simp length-map at (owed the_type the_laws n (vals the_type the_laws n) g).1.1.1.1.1.1.1.1.0.1.0.1
+entries-length n g = (owed the_type the_laws n (vals the_type the_laws n) g).1.1.1.1.1.1.1.1.0.1.0.1
 
 -- what the entries from place k on give
 unfoldable pub given_from : List (Meaning.Entry contracts) → ℕ → List ℤ

@@ -1,4 +1,6 @@
 // What an accepted message makes of the sides' tables (meaning, Messages.antt): a slot's open places from a first day on, written by day runs.
+#![tactic(auto)]
+
 mod placing; // placing.rt: a notification's volumes on the days of each length
 
 ghost use Rattle.std.specs.Prelude.{cond, ◌≡◌, ℕ, suc, ◌-◌, ◌≤◌, min, length};

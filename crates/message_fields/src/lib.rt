@@ -1,5 +1,7 @@
 // What is asked of message bytes, one field at a time, by the field's number (include/ghendufika.h names them). A field's place follows from its number,
 // so a question reads that field and what decides a refusal, and no other entry.
+#![tactic(auto)]
+
 ghost use Rattle.std.specs.Prelude.{◌≡◌, ◌<◌, get_or};
 ghost use Rattle.meaning.specs.PackedMessages.{read_message};
 ghost use Rattle.messages.specs.Structs.{no_entry};

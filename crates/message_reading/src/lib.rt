@@ -1,4 +1,6 @@
 // Reading: empty 19, kind three 20, short of the 12 or 4 bytes 19, more than fifty entries 21, short of the whole 19, a padding bit 22.
+#![tactic(auto)]
+
 ghost use Rattle.std.specs.Prelude.{◌≡◌, not, ℕ, ◌+◌, ◌-◌, ◌*◌, ◌/◌, ◌≤◌, ◌<◌, eqb, length};
 ghost use Rattle.words.specs.Tests.{if◌then◌else◌, ◌<?◌, ◌=?◌};
 ghost use Rattle.words.specs.Rules.{answer};
@@ -20,7 +22,7 @@ const VOLUME_MASK: u64 = 0xfffffff;
 
 // With a refusal the length is 0 and the message all zero.
 #[repr(C)]
-#[derive(Drop)]
+#[derive(Clone, Copy)]
 pub struct MessageRead {
     pub answer: u8,
     pub length: usize,
@@ -45,7 +47,7 @@ fn count_in(bytes: &[u8]) -> u8
 }
 
 // The size of the message at the front: the bytes that it takes, or the number that refuses it and none.
-#[derive(Drop)]
+#[derive(Clone, Copy)]
 struct Size {
     answer: u8,
     taken: usize,
@@ -142,7 +144,7 @@ fn entry_in(bytes: &[u8], k: u8) -> Entry
 }
 
 // What stands before the entries of a notification.
-#[derive(Drop)]
+#[derive(Clone, Copy)]
 struct Head {
     authorisation: u8,
     agent: u8,

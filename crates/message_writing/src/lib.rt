@@ -1,4 +1,6 @@
 // Writing: kind three 20, a value that does not fit its field or more than fifty entries 23, no room 24. A refusal leaves the whole buffer as it was.
+#![tactic(auto)]
+
 ghost use Rattle.std.specs.Prelude.{◌≡◌};
 ghost use Rattle.words.specs.Rules.{answer};
 ghost use Rattle.meaning.specs.PackedMessages.{writing_rules, write_message};
@@ -11,7 +13,7 @@ use messages::{Entry, Message, Notification, Nullification, layouts};
 
 // With a refusal the length is 0.
 #[repr(C)]
-#[derive(Drop)]
+#[derive(Clone, Copy)]
 pub struct MessageWritten {
     pub answer: u8,
     pub length: usize,

@@ -1,11 +1,13 @@
 // Messages by value, and how long they are when packed (meaning, PackedMessages.antt).
+#![tactic(auto)]
+
 pub mod layouts; // layouts.rt: the bits and bytes that they take
 
 ghost use Rattle.std.specs.Prelude.{◌≡◌, min};
 
 // One period and its volume in whole kWh.
 #[repr(C)]
-#[derive(Drop)]
+#[derive(Clone, Copy)]
 pub struct Entry {
     pub period: u8,
     pub volume: i32,
@@ -13,7 +15,7 @@ pub struct Entry {
 
 // `authorisation` is the number of the one that it is sent under; the identifier is originator and reference. Entries past `count` are no part of it.
 #[repr(C)]
-#[derive(Drop)]
+#[derive(Clone, Copy)]
 pub struct Notification {
     pub authorisation: u8,
     pub agent: u8,
@@ -27,7 +29,7 @@ pub struct Notification {
 }
 
 #[repr(C)]
-#[derive(Drop)]
+#[derive(Clone, Copy)]
 pub struct Nullification {
     pub account: u8,
     pub other: u8,
@@ -36,7 +38,7 @@ pub struct Nullification {
 
 // Kind 0 is a gate, 1 a notification, 2 a nullification. What a kind lacks is no part of it, and reads as zero.
 #[repr(C)]
-#[derive(Drop)]
+#[derive(Clone, Copy)]
 pub struct Message {
     pub kind: u8,
     pub notification: Notification,

@@ -1,4 +1,6 @@
 // The kind of a notification (meaning, Notifications.antt): initial, replacement or additional.
+#![tactic(auto)]
+
 ghost use Rattle.std.specs.Prelude.{[], ◌≡◌, suc, ◌-◌, length, get_or};
 ghost use Rattle.words.specs.Below.{some_below};
 ghost use Rattle.meaning.specs.Time.{gates_before};

@@ -1,4 +1,6 @@
 // Reading: under 5 bytes 19, counts, last day or lent lengths 17, short 19, day code three 17, rows 18, a padding bit 22.
+#![tactic(auto)]
+
 ghost use Rattle.std.specs.Prelude.{not, ◌≡◌, eqb};
 ghost use Rattle.words.specs.Rules.{answer};
 ghost use Rattle.words.specs.Fields.{total, padding, field_at};
@@ -12,7 +14,7 @@ use setups::{Authorisation, Setup, layouts, rules};
 
 // With a refusal the length is 0 and the setup all zero.
 #[repr(C)]
-#[derive(Drop)]
+#[derive(Clone, Copy)]
 pub struct SetupRead {
     pub answer: u8,
     pub length: usize,
@@ -21,7 +23,7 @@ pub struct SetupRead {
 
 // What the bytes hold, and the number that refuses it before their padding is looked at, or 0.
 #[repr(C)]
-#[derive(Drop)]
+#[derive(Clone, Copy)]
 pub struct Content {
     pub answer: u8,
     pub setup: setups::Setup,

@@ -1,4 +1,6 @@
 // Writing: 17 (lent lengths aside), 18, 23, 24. A refusal leaves the whole buffer as it was.
+#![tactic(auto)]
+
 ghost use Rattle.std.specs.Prelude.{◌≡◌};
 ghost use Rattle.words.specs.Rules.{answer};
 ghost use Rattle.meaning.specs.PackedSetups.{setup_writing_rules, write_setup};
@@ -11,7 +13,7 @@ use setups::{Authorisation, Setup, layouts, rules};
 
 // With a refusal the length is 0.
 #[repr(C)]
-#[derive(Drop)]
+#[derive(Clone, Copy)]
 pub struct SetupWritten {
     pub answer: u8,
     pub length: usize,

@@ -49,7 +49,7 @@ one-small a vs g =
     (o.0.1, o.1.0.1, o.1.1.1.1.0.1, o.1.1.1.1.1.0.1, o.1.1.1.1.1.1.0.1)
 
 each-small : (rows : List Authorisation) (us : List Val)
-    → shadow (each (Row.the_field).row.Denot (Row.the_field).row.own_val (map (Row.the_field).into rows) us)
+    → shadow (each (Row.the_row).Denot (Row.the_row).own_val rows us)
     → (k : ℕ) → Small (get_or rows k no_authorisation)
 each-small [] us p k = (omega arith, omega arith, omega arith, omega arith, omega arith)
 each-small (a ∷ rows) [] p k = absurd p
@@ -58,10 +58,10 @@ each-small (a ∷ rows) (u ∷ us) p (suc k) = each-small rows us p.1 k
 
 module _ (s : Setup) (g : Is (row the_type) s (vals the_type the_laws s)) where
   pub codes-length : length s.codes ≡ 8
-  codes-length = simp length-map at (owed the_type the_laws s (vals the_type the_laws s) g).1.1.1.1.0.1.0.1
+  codes-length = (owed the_type the_laws s (vals the_type the_laws s) g).1.1.1.1.0.1.0.1
 
   pub rows-length : length s.rows ≡ 64
-  rows-length = simp length-map at (owed the_type the_laws s (vals the_type the_laws s) g).1.1.1.1.1.0.1.0.1
+  rows-length = (owed the_type the_laws s (vals the_type the_laws s) g).1.1.1.1.1.0.1.0.1
 
   pub first_fits : s.first < 65536
   first_fits = (owed the_type the_laws s (vals the_type the_laws s) g).0.1

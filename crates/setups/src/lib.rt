@@ -1,11 +1,13 @@
 // Setups by value, their rules, and how long they are when packed (meaning, Books.antt and PackedSetups.antt).
+#![tactic(auto)]
+
 pub mod authorisations; // authorisations.rt: who writes which side
 pub mod rules; // rules.rt: what can be wrong with a setup
 pub mod layouts; // layouts.rt: the bits and bytes that it takes
 
 // An authorisation. `amendment` is its type: 0 both, 1 replacement, 2 additional. A last day of 65,535 is evergreen.
 #[repr(C)]
-#[derive(Drop)]
+#[derive(Clone, Copy)]
 pub struct Authorisation {
     pub agent1: u8,
     pub agent2: u8,
@@ -19,7 +21,7 @@ pub struct Authorisation {
 
 // The first `days` codes (0, 1, 2 for 46, 48, 50 periods) and the first `authorisations` rows are its own; what follows them is no part of it.
 #[repr(C)]
-#[derive(Drop)]
+#[derive(Clone, Copy)]
 pub struct Setup {
     pub first: u16,
     pub days: u8,

@@ -1,5 +1,7 @@
 // The sheet program (document 01, "The sheet program"): reads a setup and then messages from standard input, however many, and prints the sheet.
 // What is printed is decided by the proved parts in crate sheet_parts; here is reading, lending and printing.
+#![tactic(auto)]
+
 ghost use Rattle.std.specs.Prelude.{true, ◌≡◌, ◌≤◌, length};
 
 use book::Book;
@@ -10,7 +12,7 @@ const STANDARD_INPUT: i32 = 0;
 const STANDARD_OUTPUT: i32 = 1;
 
 // Where the program stands between two turns: whether it goes on, how many messages it has told, how many bytes are kept, and the book.
-#[derive(Drop)]
+#[derive(Clone, Copy)]
 struct Progress {
     going: bool,
     seen: u64,
@@ -19,7 +21,7 @@ struct Progress {
 }
 
 // Where it stands after the last turn: whether it would go on, how many turns it has taken, how many messages it has told, and the book.
-#[derive(Drop)]
+#[derive(Clone, Copy)]
 struct Finished {
     going: bool,
     turns: u64,

@@ -1,12 +1,14 @@
 // The parts of the sheet program (document 01, "The sheet program"): each decides which lines there are, with which numbers, and writes them into
 // a lent buffer. The program only reads, lends and prints.
+#![tactic(auto)]
+
 pub mod beginning; // beginning.rt: the setup, and the first line
 pub mod input; // input.rt: what is left of the bytes at hand
 pub mod turns; // turns.rt: the messages at hand, and their lines
 pub mod totals; // totals.rt: the lines of an account's day
 
 // How many bytes the setup took and how many were written. With a refusal the book is all zero.
-#[derive(Drop)]
+#[derive(Clone, Copy)]
 pub struct Begun {
     pub answer: u8,
     pub used: usize,
@@ -15,7 +17,7 @@ pub struct Begun {
 }
 
 // Whether more messages may come, how many were told so far, how many bytes these ones took and how many were written, and the book after them.
-#[derive(Drop)]
+#[derive(Clone, Copy)]
 pub struct Turned {
     pub going: bool,
     pub seen: u64,

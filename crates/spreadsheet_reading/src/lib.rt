@@ -1,4 +1,6 @@
 // Reads a spreadsheet (document 02, A5): one pass over the bytes, by a table of what may follow each beginning of a file.
+#![tactic(auto)]
+
 mod table; // table.rt: the tables
 mod lines; // lines.rt: a line while its bytes come
 
@@ -14,7 +16,7 @@ use spreadsheets::Spreadsheet;
 
 // `place` is that of the byte at which the answer was decided; the end counts as one. With a refusal the spreadsheet is all zero.
 #[repr(C)]
-#[derive(Drop)]
+#[derive(Clone, Copy)]
 pub struct SpreadsheetRead {
     pub answer: u8,
     pub place: usize,

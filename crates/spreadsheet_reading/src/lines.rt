@@ -8,7 +8,7 @@ use messages::Entry;
 
 // Whether the comma was read, and behind it the point and the minus; the number before the comma; the one behind it, its point left out, and how many of
 // its digits are decimals.
-#[derive(Drop)]
+#[derive(Clone, Copy)]
 pub(crate) struct Line {
     second: bool,
     pointed: bool,

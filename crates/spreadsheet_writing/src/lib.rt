@@ -1,5 +1,7 @@
 // Writes what a spreadsheet holds as its file (document 02, A5): 23 for more than fifty entries or for one out of range, 24 for no room. A refusal
 // leaves the whole buffer as it was.
+#![tactic(auto)]
+
 ghost use Rattle.std.specs.Prelude.{◌&&◌, ◌≡◌, ◌+◌, ◌≤◌, length};
 ghost use Rattle.words.specs.Lists.{every};
 ghost use Rattle.words.specs.Tests.{◌≤?◌};
@@ -15,7 +17,7 @@ use spreadsheets::Spreadsheet;
 
 // With a refusal the length is 0.
 #[repr(C)]
-#[derive(Drop)]
+#[derive(Clone, Copy)]
 pub struct SpreadsheetWritten {
     pub answer: u8,
     pub length: usize,

@@ -1,5 +1,7 @@
 // What the C viewer asks about message bytes (document 01, "Packed messages"): refusal, length and any one field, each asked apart.
 // include/ghendufika.h declares these functions and names the fields.
+#![tactic(auto)]
+
 mod asked; // asked.rt: the numbers that a question names
 pub mod books; // books.rt: a book from C
 pub mod packing; // packing.rt: messages, setups and books out of packed bytes, and into them
@@ -16,7 +18,7 @@ ghost use Rattle.message_fields.specs.Questions.{field_in};
 // `bar` is the number of the mark's case: 0 Blank, 1 OneSide, 2 Agreed, 3 Disagreed; a figure that the case does not have is positive zero. With a
 // refusal the mark is blank.
 #[repr(C)]
-#[derive(Drop)]
+#[derive(Clone, Copy)]
 pub struct MarkNumbers {
     pub answer: u8,
     pub bar: u8,

@@ -1,6 +1,6 @@
 -- The space and the digits, one after the other.
 use Rattle.std.proofs.Common.{rules}
-use Rattle.decimals.proofs.Texts.{put_then}
+use Rattle.sheet_lines.proofs.Texts.{written_then}
 use Rattle.sheet_lines.proofs.put_field.Statement.{statement}
 use Rattle.sheet_lines.proofs.put_field.Tie as tie
 
@@ -17,11 +17,7 @@ same_length : tie.Need-same-length
 same_length c = search rules
 
 returns : tie.Need-returns
-returns c =
-    let start : tie.Start = search in
-    let space : tie.After-put-word = search in
-    let digits : tie.After-put-decimal = search in
-    put_then start.pre space.put_word.ensures digits.put-decimal.ensures
+returns c = written_then c.before.before.before.before.before.before.put_word.ensures c.before.before.put-decimal.ensures
 
 pub put-field-spec : {M : Type 1} → statement M
 put-field-spec =

@@ -1,8 +1,8 @@
 -- Below zero the sign is written with the space; the digits are those of the size.
 use Rattle.std.proofs.Common.{◌≡◌, ℕ, ◌∷◌, length, nat_abs, ap, ◌∙◌, arith, to_z-of_z, w64, to_z, of_z, rules}
 use Rattle.meaning.specs.Decimals.{decimal, signed}
-use Rattle.decimals.proofs.Texts.{put_then}
-use Rattle.sheet_lines.proofs.Signs.{signed_below, signed-not-below}
+use Rattle.sheet_lines.proofs.Sizes.{signed_below, signed-not-below}
+use Rattle.sheet_lines.proofs.Texts.{written_then}
 use Rattle.sheet_lines.proofs.put_signed_field.Statement.{statement}
 use Rattle.sheet_lines.proofs.put_signed_field.Tie as tie
 
@@ -24,13 +24,18 @@ slice-aggregate-put-word : tie.Need-slice-aggregate-put-word
 slice-aggregate-put-word c = search rules
 
 put-word-requires : tie.Need-put-word-requires
-put-word-requires c κs = search rules
+put-word-requires c κs =
+    let negative : tie.Then1 = search in
+    omega (arith, ap length (below negative))
 
 size-requires : tie.Need-size-requires
 size-requires c κs = search rules
 
 put-decimal-requires : tie.Need-put-decimal-requires
-put-decimal-requires c κs = search rules
+put-decimal-requires c κs =
+    let negative : tie.Then1 = search in
+    let start : tie.Start = search in
+    omega (arith, ap length (below negative), ap (λ (n : ℕ). length (decimal n)) (sized start c.size.ensures))
 
 same_length : tie.Need-same-length
 same_length c = search rules
@@ -42,9 +47,7 @@ returns c =
     let sign : tie.After-put-word = search in
     let negative : tie.Then1 = search in
     let start : tie.Start = search in
-    let e = sized start measured.size.ensures in
-    rw (below negative, ← e)
-    (put_then (omega (arith, ap length (below negative), ap (λ (n : ℕ). length (decimal n)) e)) sign.put_word.ensures digits.put-decimal.ensures)
+    rw (below negative, ← sized start measured.size.ensures) (written_then sign.put_word.ensures digits.put-decimal.ensures)
 
 size-requires-2 : tie.Need-size-requires-2
 size-requires-2 c κs = search rules

@@ -4,11 +4,9 @@ use borrow.Author.Tests.{not-true, not-false}
 use Rattle.meaning.specs.Ascii.{ascii}
 use Rattle.meaning.specs.Decimals.{signed}
 use Rattle.meaning.specs.SheetLines.{field, beginning, newline, total_line}
-use Rattle.decimals.specs.Texts.{has_room}
-use Rattle.decimals.proofs.Texts.{room-free, room_after, written_then, written-put}
-use Rattle.sheet_lines.specs.Places.{most_bytes}
+use Rattle.sheet_lines.specs.Places.{has_room}
 use Rattle.sheet_lines.proofs.Lengths.{total-most}
-use Rattle.sheet_lines.proofs.Texts.{no_room, with-room, ended-length}
+use Rattle.sheet_lines.proofs.Texts.{written_then, no_room, with-room, room-free, room_after, ended-length}
 use Rattle.sheet_lines.proofs.put_total_line.Statement.{statement}
 use Rattle.sheet_lines.proofs.put_total_line.Tie as tie
 
@@ -16,7 +14,7 @@ abbrev begin : tie.Else1 → tie.Start
 begin c = c.before.before.before
 
 -- past the test there is room for the line
-roomy : (c : tie.Else1) → has_room (length (begin c).args.out.now) (begin c).args.at most_bytes ≡ true
+roomy : (c : tie.Else1) → has_room (length (begin c).args.out.now) (begin c).args.at ≡ true
 roomy c = sym c.before.has_room.ensures ∙ not-false c.before.has_room.result c.if1.false
 
 -- the line's parts: what it begins with, and the volume as the machine hands it over
@@ -30,18 +28,16 @@ whole : (s : tie.Start) → total_line s.args.account s.args.day s.args.period s
 unfolding total_line
 whole s = rw (to_z-of_z s.ranges.kwh)
 
-free : (c : tie.Else1) → let s = begin c in s.args.at + length ((begun s ++ volume s) ++ newline) ≤ length s.args.out.now
+free : (c : tie.Else1) → let s = begin c in s.args.at + (length (begun s) + (length (volume s) + 1)) ≤ length s.args.out.now
 free c =
     let s = begin c in
     omega (
       arith,
-      room-free (length s.args.out.now) s.args.at most_bytes (roomy c),
+      room-free (length s.args.out.now) s.args.at (roomy c),
       rw (whole s) at (total-most s.args.account s.args.day s.args.period s.args.kwh s.fits.account.fits s.fits.day.fits s.fits.period.fits s.fits.kwh.sfits),
+      ended-length (begun s ++ volume s),
+      length-append (begun s) (volume s),
     )
-
--- and for its parts
-parts : (s : tie.Start) → length ((begun s ++ volume s) ++ newline) ≡ length (begun s) + length (volume s) + 1
-parts s = omega (arith, ended-length (begun s ++ volume s), length-append (begun s) (volume s))
 
 has-room-requires : tie.Need-has-room-requires
 has-room-requires c κs = search rules
@@ -61,19 +57,23 @@ slice-aggregate-put-beginning-2 c = search rules
 put-beginning-requires : tie.Need-put-beginning-requires
 put-beginning-requires c κs =
     let tested : tie.Else1 = search in
-    omega (arith, free tested, parts (begin tested))
+    omega (arith, free tested)
 
 put-signed-field-requires : tie.Need-put-signed-field-requires
 put-signed-field-requires c κs =
     let begins : tie.After-put-beginning = search in
     let tested : tie.Else1 = search in
-    room_after (length (volume (begin tested))) begins.put-beginning.ensures (omega (arith, free tested, parts (begin tested)))
+    room_after (length (volume (begin tested))) begins.put-beginning.ensures (omega (arith, free tested))
 
 slice-aggregate-put-word : tie.Need-slice-aggregate-put-word
 slice-aggregate-put-word c = search rules
 
 put-word-requires : tie.Need-put-word-requires
-put-word-requires c κs = search rules
+put-word-requires c κs =
+    let signs : tie.After-put-signed-field = search in
+    let begins : tie.After-put-beginning = search in
+    let tested : tie.Else1 = search in
+    room_after 1 signs.put-signed-field.ensures (room_after (length (volume (begin tested)) + 1) begins.put-beginning.ensures (free tested))
 
 same_length : tie.Need-same-length
 same_length c = search rules
@@ -86,7 +86,7 @@ returns-2 c =
     let tested : tie.Else1 = search in
     let s = begin tested in
     with-room s.args.out.now s.args.at (total_line s.args.account s.args.day s.args.period s.args.kwh) (roomy tested)
-    (rw (whole s) (written-put (free tested) (written_then begins.put-beginning.ensures signs.put-signed-field.ensures) ends.put_word.ensures))
+    (rw (whole s) (written_then (written_then begins.put-beginning.ensures signs.put-signed-field.ensures) ends.put_word.ensures))
 
 pub put-total-line-spec : {M : Type 1} → statement M
 put-total-line-spec =

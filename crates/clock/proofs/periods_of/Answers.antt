@@ -1,0 +1,22 @@
+-- Each arm is a code.
+use borrow.Author.Tests.{ne_eqb}
+use Rattle.meaning.specs.Time.{periods_of_code}
+use Rattle.clock.proofs.periods_of.Goals as goal
+
+pub returns-in-0 : goal.returns-in-0
+unfolding periods_of_code
+returns-in-0 c = rw c.in-0.is
+
+pub returns-in-1 : goal.returns-in-1
+unfolding periods_of_code
+returns-in-1 c = rw c.in-1.is
+
+pub returns-in-2 : goal.returns-in-2
+unfolding periods_of_code
+returns-in-2 c = rw c.in-2.is
+
+pub returns-in_default : goal.returns-in_default
+unfolding periods_of_code
+returns-in_default c =
+    let code = c.args.code in
+    rw (ne_eqb code 0 c.in_default.in_default-own.rest.0.0.1, ne_eqb code 1 c.in_default.in_default-own.rest.0.1, ne_eqb code 2 c.in_default.in_default-own.rest.1)

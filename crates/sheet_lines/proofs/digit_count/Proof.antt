@@ -1,0 +1,31 @@
+-- The digits counted and those of what is left are one more than the number's.
+use Rattle.std.proofs.Common.{◌≡◌, ◌+◌, length, arith}
+use Rattle.meaning.specs.Decimals.{decimal}
+use Rattle.meaning.proofs.Decimals.{count_low, count-high, count-some, count_word}
+use Rattle.sheet_lines.proofs.digit_count.Statement.{statement}
+use Rattle.sheet_lines.proofs.digit_count.Tie as tie
+
+abbrev invariant-loop : tie.invariant-loop
+invariant-loop number count₀ rest₀ count rest = count + length (decimal rest) ≡ length (decimal number) + 1
+
+abbrev decreases-loop : tie.decreases-loop
+decreases-loop number count₀ rest₀ count rest = rest
+
+loop-holds : tie.Need-loop-init invariant-loop decreases-loop
+loop-holds c = omega arith
+
+add-count : tie.Need-overflow-add-count invariant-loop decreases-loop
+add-count c = omega (arith, count-some c.before.loop.rest, count_word c.before.before.args.number (omega arith))
+
+loop-less : tie.Need-loop-smaller invariant-loop decreases-loop
+loop-less c = omega arith
+
+loop-again : tie.Need-loop-preserved invariant-loop decreases-loop
+loop-again c = omega (arith, count-high c.before.loop.rest (omega arith))
+
+returns : tie.Need-returns invariant-loop decreases-loop
+returns c = omega (arith, count_low c.before.loop.rest (omega arith))
+
+pub digit-count-spec : {M : Type 1} → statement M
+digit-count-spec =
+    tie.close (tie.spec invariant-loop decreases-loop loop-holds add-count loop-less loop-again returns)
