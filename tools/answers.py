@@ -73,17 +73,19 @@ class Function:
             for new, step, subs in d["arm"][2]:
                 if canon(step) == canon(field) and list(after[: len(subs)]) == subs:
                     return d["step"][1] + "." + new + rest(list(after[len(subs) :]))
-        return d["step"][1] + rest(list(after))
+        step = d["step"][1]
+        return step + rest(list(after), step.startswith("if-") or step.endswith("-test"))
 
 
-FIRST = {"args": "args", "pre": "requires", "requires": "requires", "good": "well_formed", "well-formed": "well_formed", "well_formed": "well_formed", "ranges": "ranges", "lifetimes": "lifetimes", "type-inv": "type_inv", "type_inv": "type_inv", "utf8": "utf8"}
+FIRST = {"args": "args", "pre": "requires", "requires": "requires", "good": "well_formed", "well-formed": "well_formed", "well_formed": "well_formed", "ranges": "ranges", "lifetimes": "lifetimes", "type-inv": "type_inv", "type_inv": "type_inv", "utf8": "utf8", "fits": "ranges"}
 LATER = {"taken": "true", "left": "false", "inv": "invariant", "type-inv": "type_inv", "well-formed": "well_formed"}
 
 
-def rest(fields):
+def rest(fields, test=False):
     out = []
     for k, f in enumerate(fields):
-        f = LATER.get(f, f)
+        if f not in ("taken", "left") or (test and k == 0):
+            f = LATER.get(f, f)
         if k and fields[k - 1] in ("ensures", "requires"):
             f = f.replace("-", "_")
         out.append(f)
@@ -123,6 +125,12 @@ def resolve(text, fn, env, goal, lemmas, looks, where):
             text = text[: m.start()] + text[m.end() :]
             changed = True
 
+    own = set()
+    for m in re.finditer(r"let (%s) = (%s) [^\n=]*? in\b" % (NAME, NAME), text):
+        if fn.returns.get(m.group(2)):
+            env[m.group(1)] = (fn.returns[m.group(2)], m.group(1))
+            own.add(m.group(1))
+
     def one(m):
         v, befores, fields = m.group(1), m.group(2), [f for f in m.group(3).split(".") if f]
         if v not in env:
@@ -140,19 +148,22 @@ def resolve(text, fn, env, goal, lemmas, looks, where):
                 return hand + "." + FIRST[f] + rest(fields[1:])
             looks.append(f"{where}: {m.group(0)}: no step {f}")
             return hand + "." + f + rest(fields[1:])
-        if n == 0 and v in bound:
+        if n == 0 and (v in bound or v in own):
             return m.group(0)
         at = whole(v, place, n)
         before = text[: m.start()].rstrip()
         lm = re.search(r"([^\s(){};,]+)$", before)
         if lm and lm.group(1) in lemmas:
             at = lemmas[lm.group(1)]
-        if goal is not None:
+        if goal is not None and hand not in own:
             fn.named.add(fn.places[at]["new"])
             return f"(goal.at.{goal} {hand}).{fn.places[at]['new']}"
         up = fn.chain(env_at[hand])
+        if at == env_at[hand]:
+            return hand
         if at in up:
-            return hand + ".before" * up.index(at)
+            fn.named.add(fn.places[at]["new"])
+            return f"(goal.at.{fn.places[env_at[hand]]['new']} {hand}).{fn.places[at]['new']}"
         looks.append(f"{where}: {m.group(0)}: {at} is not above")
         return m.group(0)
 
@@ -178,7 +189,7 @@ def resolve(text, fn, env, goal, lemmas, looks, where):
             return m.group(0)
         return f"({m.group(1)}{m.group(2)}).{step}"
 
-    text = re.sub(r"\((%s)((?: [^()]*)?)\)((?:\.before(?![\w\-']))*)((?:\.[\w\-'₀-₉κσμ]+)+)" % NAME, inner, text)
+    text = re.sub(r"\((%s)((?: (?:[^()]|\([^()]*\))*)?)\)((?:\.before(?![\w\-']))*)((?:\.[\w\-'₀-₉κσμ]+)+)" % NAME, inner, text)
     text = re.sub(r"not-(?:true|false) [^\s()]+ ((?:\w+)\.if-[^\s()]+\.(?:true|false))", r"\1", text)
     return text
 
@@ -205,6 +216,7 @@ def used(name, words, text):
 
 def imports(uses, body, extra):
     words = set()
+    words |= set(re.findall(r"\[\]|[^\s\w(){}]+", body))
     for t in TOKEN.findall(body):
         words.add(t)
         words |= set(re.split(r"[.]", t))
@@ -227,6 +239,11 @@ def turn(path, entry, crate, function, looks):
     with open(path, encoding="utf-8") as f:
         text = f.read()
     fn = Function(entry)
+    while True:
+        m = re.search(r"^abbrev (\S+) : Type 0\n\1 = (tie\.[^\n]*)$", text, re.M)
+        if m is None:
+            break
+        text = text[: m.start()] + re.sub(r"(?<![\w\-.])%s(?![\w\-])" % re.escape(m.group(1)), m.group(2), text[m.end() :])
     for o, n in fn.args:
         text = re.sub(r"(?<=\.)%s(?![\w\-'])" % re.escape(o), n, text)
     module = function.replace("/", ".")

@@ -36,16 +36,16 @@ decimal-read n = reads-below (suc n) n (omega arith)
 
 -- ---- each byte is a digit
 
-pub is_digit : (d : ℕ) → d < 10 → between 48 57 (digit d) ≡ true
-is_digit d h = both (le-leb 48 (48 + d) (omega arith)) (le-leb (48 + d) 57 (omega arith))
+pub digit-is_digit : (d : ℕ) → d < 10 → between 48 57 (digit d) ≡ true
+digit-is_digit d h = both (le-leb 48 (48 + d) (omega arith)) (le-leb (48 + d) 57 (omega arith))
 
 digits-below : (k n : ℕ) → n < k → every (between 48 57) (decimal n) ≡ true
 unfolding every
 digits-below zero n h = absurd (not-suc-le-zero h)
 digits-below (suc k) n h =
     by-lt n 10
-    (λ l. rw (decimal-low n l) (both (is_digit (n % 10) (omega arith)) refl))
-    (λ l. rw (decimal-high n l) (every_append (between 48 57) (decimal (n / 10)) (digit (n % 10) ∷ []) (digits-below k (n / 10) (omega arith)) (both (is_digit (n % 10) (omega arith)) refl)))
+    (λ l. rw (decimal-low n l) (both (digit-is_digit (n % 10) (omega arith)) refl))
+    (λ l. rw (decimal-high n l) (every_append (between 48 57) (decimal (n / 10)) (digit (n % 10) ∷ []) (digits-below k (n / 10) (omega arith)) (both (digit-is_digit (n % 10) (omega arith)) refl)))
 
 pub decimal-digits : (n : ℕ) → every (between 48 57) (decimal n) ≡ true
 decimal-digits n = digits-below (suc n) n (omega arith)

@@ -67,9 +67,8 @@ fn no_size(answer: u8) -> Size
 // head, which the bytes are short of.
 fn bits_in(bytes: &[u8], kind: u8) -> u32
     requires { kind ≡ kind_in bytes.now }
-    ensures* { do
-      let s = bytes.now
-      ⌜ result ≡ (if length s <? bytes_for (layout_for (kind_in s) 0) then total (layout_for (kind_in s) 0) else if 50 <? count_in s then 0 else total (layout_in s)) ⌝ }
+    ensures { let s = bytes.now in
+        result ≡ (if length s <? bytes_for (layout_for (kind_in s) 0) then total (layout_for (kind_in s) 0) else if 50 <? count_in s then 0 else total (layout_in s)) }
 {
     if (kind == 1) & (layouts::bytes_for(1, 0) <= bytes.len()) {
         let count = count_in(bytes);
@@ -93,9 +92,8 @@ fn padding_bit(bytes: &[u8], bits: u32) -> bool
 
 // Each rule of reading, in its order. What is short of its head has no count that could be too large, so one test finds it with what is short of the whole.
 fn size_in(bytes: &[u8]) -> Size
-    ensures* { do
-      let s = bytes.now
-      ⌜ result ≡ record { answer = answer (reading_rules s); taken = (read_message s).length } ⌝ }
+    ensures { let s = bytes.now in
+        result ≡ record { answer = answer (reading_rules s); taken = (read_message s).length } }
 {
     if bytes.len() == 0 {
         return no_size(numbers::BYTES_END_TOO_SOON);
@@ -158,9 +156,8 @@ struct Head {
 
 // The head of a notification; of a message of another kind all of it is zero.
 fn head_in(bytes: &[u8], kind: u8) -> Head
-    ensures* { do
-      let field : ℕ → ℕ → ℕ = λ p w. if kind =? 1 then field_at bytes.now p w else 0
-      ⌜ result ≡ record { authorisation = field 2 6; agent = field 8 8; key = field 16 16; originator = field 32 6; reference = field 38 16; first = field 54 16; last = field 70 16; count = field 86 6 } ⌝ }
+    ensures { let field : ℕ → ℕ → ℕ = λ p w. if kind =? 1 then field_at bytes.now p w else 0 in
+        result ≡ record { authorisation = field 2 6; agent = field 8 8; key = field 16 16; originator = field 32 6; reference = field 38 16; first = field 54 16; last = field 70 16; count = field 86 6 } }
 {
     if kind != 1 {
         return Head {

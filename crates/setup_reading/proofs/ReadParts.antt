@@ -165,9 +165,9 @@ module _ (s : List ℕ) where
       let e : total (setup_layout_for days k) ≡ rows_start + k * 78 = omega (arith, bits-setup days k, times-total days (2 ∷ [])) in
       rw e (sym (ap row_for (row-at s rows_start count k h)))
 
-  rows_in : rows_in s days count ≡ build 64 (λ (k : ℕ). row_for (get_or (rows_from count row_fields) k Meaning.no_row))
+  rows-in : rows_in s days count ≡ build 64 (λ (k : ℕ). row_for (get_or (rows_from count row_fields) k Meaning.no_row))
   unfolding rows_in
-  rows_in =
+  rows-in =
       build-same 64 (λ (k : ℕ). if k <? count then row_in s days k else no_authorisation)
       (λ (k : ℕ). row_for (get_or (rows_from count row_fields) k Meaning.no_row))
       (λ k h.
@@ -180,7 +180,7 @@ module _ (s : List ℕ) where
   -- THE BRIDGE: the struct made of the bytes is the one for the setup that they hold
   pub struct-in : setup_struct_in s ≡ setup_for (setup_in s)
   unfolding setup_struct_in setup_for
-  struct-in = rw (parts_in, codes-count, rows-count count row_fields, codes-in, rows_in)
+  struct-in = rw (parts_in, codes-count, rows-count count row_fields, codes-in, rows-in)
 
 -- nothing is read with a refusal, whatever rules it comes from
 pub refused-by : (s : List ℕ) {n m : ℕ} {t : Setup} → n ≡ m → n ≢ 0 → t ≡ no_setup_struct

@@ -16,7 +16,7 @@ use Rattle.meaning.specs.Ascii.{ascii}
 use Rattle.meaning.specs.Decimals.{digit, decimal}
 use Rattle.meaning.specs.Ledgers.{contracts}
 use Rattle.meaning.specs.Messages.{Entry}
-use Rattle.meaning.proofs.ReadBack.{reads, is_digit, decimal-read, decimal-digits}
+use Rattle.meaning.proofs.ReadBack.{reads, digit-is_digit, decimal-read, decimal-digits}
 use Rattle.spreadsheets.specs.Entries.{before, behind, is_digit, with_digit, value_from, value, decimals, kwh, kwh_of, entry_of}
 use Rattle.spreadsheets.specs.Writing.{three_digits, size_text, mwh_text, entry_text}
 
@@ -63,7 +63,7 @@ value-decimal n = ap (value_from 0) (sym (append-nil (decimal n))) ∙ value-dig
 
 with-digit : (v d : ℕ) → d < 10 → with_digit v (digit d) ≡ v * 10 + d
 unfolding with_digit
-with-digit v d h = rw (is_digit d h) (omega arith)
+with-digit v d h = rw (digit-is_digit d h) (omega arith)
 
 -- a point and a minus are no digits
 point-passed : (v : ℕ) → with_digit v 0x2E ≡ v
@@ -90,7 +90,7 @@ value-size n =
 
 pub three-digits : (n : ℕ) → every is_digit (three_digits n) ≡ true
 unfolding every
-three-digits n = both (is_digit (n / 100 % 10) (omega arith)) (both (is_digit (n / 10 % 10) (omega arith)) (both (is_digit (n % 10) (omega arith)) refl))
+three-digits n = both (digit-is_digit (n / 100 % 10) (omega arith)) (both (digit-is_digit (n / 10 % 10) (omega arith)) (both (digit-is_digit (n % 10) (omega arith)) refl))
 
 pub size_none : (n c : ℕ) → is_digit c ≡ false → (0x2E =? c) ≡ false → any (◌=? c) (size_text n) ≡ false
 unfolding any

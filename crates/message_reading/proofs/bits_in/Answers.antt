@@ -1,0 +1,69 @@
+-- A notification whose head is there tells its entries; every other message has none, and its head's bits are all.
+use mathlib.Core.Bool.{true, false, ◌&&◌}
+use mathlib.Core.List.{List}
+use mathlib.Core.Path.{◌≡◌, sym, ◌∙◌}
+use Prim.Native.Nat.{ℕ, ◌≤◌, ◌<◌}
+use native.Mathlib.Omega.{arith}
+use lib.Dec.{eqb, leb}
+use lib.ListN.{length}
+use borrow.Author.Tests.{eq-eqb, eqb-true, lt-ltb, le-ltb, le-leb, leb-true}
+use Rattle.words.specs.Fields.{bytes_for, total}
+use Rattle.laws.proofs.Cases.{by-eq, by-lt, and_left, and_right}
+use Rattle.meaning.specs.PackedMessages.{kind_in, count_in, layout_for, layout_in}
+use Rattle.meaning.proofs.MessageValues.{count-other}
+use Rattle.message_reading.proofs.ReadRefusals.{bits_told}
+use Rattle.message_reading.proofs.bits_in.Goals as goal
+use Rattle.message_reading.proofs.bits_in.Goals.{Then-kind-bytes_for}
+
+module _ (s : List ℕ) where
+  abbrev head_bytes : ℕ
+  head_bytes = bytes_for (layout_for (kind_in s) 0)
+
+  -- with the head of a notification
+  many : head_bytes ≤ length s → 50 < count_in s → 0 ≡ bits_told s
+  many l k = rw (le-ltb (length s) head_bytes l, lt-ltb 50 (count_in s) k)
+
+  few : head_bytes ≤ length s → count_in s ≤ 50 → total (layout_in s) ≡ bits_told s
+  few l k = rw (le-ltb (length s) head_bytes l, le-ltb 50 (count_in s) k)
+
+  -- without it, or of another kind
+  alone : (eqb (kind_in s) 1 && leb (bytes_for (layout_for 1 0)) (length s)) ≡ false → total (layout_for (kind_in s) 0) ≡ bits_told s
+  unfolding layout_in
+  alone e =
+      by-lt (length s) head_bytes
+      (λ l. rw (lt-ltb (length s) head_bytes l))
+      (λ l.
+      by-eq (kind_in s) 1
+      (λ k.
+      let here : leb (bytes_for (layout_for 1 0)) (length s) ≡ true = le-leb _ _ (rw k at l) in
+      let z : ◌≡◌ {A = ℕ} 0 1 = cc (rw (eq-eqb (kind_in s) 1 k, here) at e) in
+      absurd (omega arith))
+      (λ n. rw (le-ltb (length s) head_bytes l, count-other s n)))
+
+-- the kind is 1, and its head is there
+is-notification : (c : Then-kind-bytes_for) → kind_in c.args.bytes.now ≡ 1
+is-notification c =
+    let a = c.args in
+    sym c.requires ∙ eqb-true a.kind 1 (and_left (eqb a.kind 1) (leb c.bytes_for.result (length a.bytes.now)) c.if-kind-bytes_for.true)
+
+has-head : (c : Then-kind-bytes_for) → head_bytes c.args.bytes.now ≤ length c.args.bytes.now
+has-head c =
+    let a = c.args in
+    let inside = leb-true _ _ (and_right (eqb a.kind 1) (leb c.bytes_for.result (length a.bytes.now)) c.if-kind-bytes_for.true) in
+    rw (is-notification c, ← c.bytes_for.ensures) inside
+
+pub returns-then-count-gt-MOST_ENTRIES : goal.returns-then-count-gt-MOST_ENTRIES
+returns-then-count-gt-MOST_ENTRIES c =
+    many c.args.bytes.now (has-head (goal.at.returns-then-count-gt-MOST_ENTRIES c).Then-kind-bytes_for) (rw c.count_in-count.ensures at c.if-count-gt-MOST_ENTRIES.true)
+
+pub returns-then-kind-bytes_for : goal.returns-then-kind-bytes_for
+unfolding layout_in
+returns-then-kind-bytes_for c =
+    let s = c.args.bytes.now in
+    c.bits_for.ensures
+    ∙ rw (c.count_in-count.ensures, ← is-notification (goal.at.returns-then-kind-bytes_for c).Then-kind-bytes_for) (few s (has-head (goal.at.returns-then-kind-bytes_for c).Then-kind-bytes_for) (rw c.count_in-count.ensures at c.if-count-gt-MOST_ENTRIES.false))
+
+pub returns : goal.returns
+returns c =
+    let a = c.args in
+    c.bits_for-2.ensures ∙ rw c.requires (alone a.bytes.now (rw (c.requires, c.bytes_for.ensures) at c.if-kind-bytes_for.false))

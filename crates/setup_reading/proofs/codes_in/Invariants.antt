@@ -1,0 +1,17 @@
+-- The loop fills the eight places: with the code where there is a day, and with nothing past the days.
+use mathlib.Core.List.{List}
+use mathlib.Core.Path.{◌≡◌}
+use Prim.Native.Nat.{ℕ, ◌+◌, ◌-◌, ◌*◌, ◌≤◌}
+use Rattle.words.specs.Tests.{if◌then◌else◌, ◌<?◌}
+use Rattle.words.specs.Fields.{field_at}
+use Rattle.laws.proofs.Builds.{filled}
+use Rattle.setup_reading.proofs.codes_in.Given as goal
+
+abbrev pub code_in : List ℕ → ℕ → ℕ → ℕ
+code_in s days d = if d <? days then field_at s (34 + 2 * d) 2 else 0
+
+abbrev pub invariant-loop-d : goal.invariant-loop-d
+invariant-loop-d l = (l.d ≤ 8) × (l.codes ≡ filled 8 (code_in l.bytes l.days) 0 l.d)
+
+abbrev pub decreases-loop-d : goal.decreases-loop-d
+decreases-loop-d l = 8 - l.d
