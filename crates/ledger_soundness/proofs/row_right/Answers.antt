@@ -24,7 +24,7 @@ returns-then-held-periods c =
     let test = c.if-held-periods.true in
     let held = and_left a.held (leb 46 a.periods) test in
     let long = leb-true 46 a.periods (and_right a.held (leb 46 a.periods) test) in
-    let all = c.All-right.ensures ∙ part-every right side the_mark a.base (a.base + 50) 50 refl c.requires.1 in
+    let all = c.all_right.ensures ∙ part-every right side the_mark a.base (a.base + 50) 50 refl c.requires.1 in
     let ends =
     c.blank_from.ensures
     ∙ part-every-at (λ k v. ltb k (a.periods - 46) || blank v) side the_mark (a.base + 46) (a.base + 50) 4 (omega arith) c.requires.1 in

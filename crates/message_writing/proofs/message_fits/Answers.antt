@@ -1,0 +1,29 @@
+-- Each arm is one case of the definition.
+use mathlib.Core.Path.{◌∙◌}
+use borrow.Author.Tests.{ne_eqb}
+use Rattle.message_writing.specs.Writing.{message_fits}
+use Rattle.message_writing.proofs.message_fits.Goals as goal
+
+pub notification_fits-requires : goal.notification_fits-requires
+notification_fits-requires c = tt
+
+pub nullification_fits-requires : goal.nullification_fits-requires
+nullification_fits-requires c = tt
+
+pub returns-in-0 : goal.returns-in-0
+unfolding message_fits
+returns-in-0 c = rw c.in-0.is
+
+pub returns-in-1 : goal.returns-in-1
+unfolding message_fits
+returns-in-1 c = c.notification_fits.ensures ∙ rw c.in-1.is
+
+pub returns-in-2 : goal.returns-in-2
+unfolding message_fits
+returns-in-2 c = c.nullification_fits.ensures ∙ rw c.in-2.is
+
+pub returns-in_default : goal.returns-in_default
+unfolding message_fits
+returns-in_default c =
+    let kind = c.args.m.kind in
+    rw (ne_eqb kind 0 c.in_default.in_default-own.rest.0.0.1, ne_eqb kind 1 c.in_default.in_default-own.rest.0.1, ne_eqb kind 2 c.in_default.in_default-own.rest.1)
