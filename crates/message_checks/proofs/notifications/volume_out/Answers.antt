@@ -4,11 +4,7 @@ use mathlib.Core.Path.{ap}
 use mir.Facts.{to_z-of_z}
 use mir.Syntax.{w32}
 use Rattle.laws.proofs.Whole.{range-within}
-use Rattle.message_checks.proofs.notifications.volume_out.Statement.{statement}
-use Rattle.message_checks.proofs.notifications.volume_out.Tie as tie
+use Rattle.message_checks.proofs.notifications.volume_out.Goals as goal
 
-returns : tie.Need-returns
+pub returns : goal.returns
 returns c = simp (to_z-of_z {w = w32} c.ranges.v) (ap not (range-within 99999999 c.args.v))
-
-pub volume-out-spec : {M : Type 1} → statement M
-volume-out-spec = tie.close (tie.spec returns)
