@@ -1,6 +1,5 @@
 -- Nothing found yet: no slot before s overlaps, no day of s before d, no period of d before p.
 use mathlib.Core.Bool.{false}
-use mathlib.Core.Logic.{⊎_elim}
 use mathlib.Core.Path.{refl, sym, ap, ◌∙◌}
 use Prim.Native.Nat.{ℕ, ◌-◌, ◌≤◌, ◌<◌}
 use native.Mathlib.Omega.{arith}
@@ -17,6 +16,7 @@ use Rattle.book.proofs.StateLaws.{place-few}
 use Rattle.notification_kinds.specs.Kinds.{periods_within}
 use Rattle.notification_kinds.proofs.KindLaws.{some-keep, some-upto, on_period, slot-skip, slot-miss, slot-hit, day-miss, day-hit, closed-miss, open-states, within-few, slot-inside, place_inside}
 use Rattle.notification_kinds.proofs.is_overlapped.Goals as goal
+use Rattle.notification_kinds.proofs.is_overlapped.Goals.{then-is_other+else-loop-d-test, else-is_other}
 
 -- ---- the places that the answers look back to, each found by its type: the start, the sides, the loops over slots, days and periods
 
@@ -89,10 +89,11 @@ search-preserved c =
     let m = book_of a.b a.held.now a.side1.now a.side2.now in
     let n = notification_of a.n in
     let s = c.search.s in
-    ⊎_elim
-    (λ w. (w.3 ∙ w.1.invariant.0, some-keep _ _ c.search.invariant.1 (slot-miss m n s w.1.d w.1.invariant.1 (rw (codes-own a.b.setup.days a.b.setup.codes) w.2.left))))
-    (λ w. (w.1 ∙ c.search.invariant.0, some-keep _ _ c.search.invariant.1 (slot-skip m n s (sym c.is_other.ensures ∙ w.0.left))))
-    c.if-is_other.branch
+    elim c.if-is_other.branch [
+      | then-is_other+else-loop-d-test w ↦
+          (w.found-is ∙ w.loop-d.invariant.0, some-keep _ _ c.search.invariant.1 (slot-miss m n s w.loop-d.d w.loop-d.invariant.1 (rw (codes-own a.b.setup.days a.b.setup.codes) w.loop-d-test.false)))
+      | else-is_other w ↦ (w.found-is ∙ c.search.invariant.0, some-keep _ _ c.search.invariant.1 (slot-skip m n s (sym c.is_other.ensures ∙ w.if-is_other.false)))
+    ]
 
 pub returns-after-search : goal.returns-after-search
 returns-after-search c = c.search.invariant.0 ∙ sym (some-upto _ _ _ c.search.invariant.1 c.search-test.false)

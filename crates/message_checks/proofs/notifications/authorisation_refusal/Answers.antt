@@ -31,14 +31,14 @@ returns-then-not-in_force c =
     answered _
     (Answers.passed (known (goal.at.returns-then-not-in_force c).Start (search))
     (Answers.passed (sym (key-test c.args.b c.args.n c.row_of-row.ensures c.key_or_agent_wrong.ensures) ∙ c.if-key_or_agent_wrong.false)
-    (Answers.met (sym (force-test c.args.b c.args.n c.row_of-row.ensures c.requires c.in_force.ensures) ∙ c.if-not-in_force.true))))
+    (Answers.met (sym (force-test c.args.b c.args.n c.row_of-row.ensures c.requires c.in_force.ensures) ∙ ap not c.if-not-in_force.true))))
 
 pub returns-then-originator_wrong : goal.returns-then-originator_wrong
 returns-then-originator_wrong c =
     answered _
     (Answers.passed (known (goal.at.returns-then-originator_wrong c).Start (search))
     (Answers.passed (sym (key-test c.args.b c.args.n c.row_of-row.ensures c.key_or_agent_wrong.ensures) ∙ c.if-key_or_agent_wrong.false)
-    (Answers.passed (sym (force-test c.args.b c.args.n c.row_of-row.ensures c.requires c.in_force.ensures) ∙ c.if-not-in_force.false)
+    (Answers.passed (sym (force-test c.args.b c.args.n c.row_of-row.ensures c.requires c.in_force.ensures) ∙ ap not c.if-not-in_force.false)
     (Answers.met (sym c.originator_wrong.ensures ∙ c.if-originator_wrong.true)))))
 
 pub returns : goal.returns
@@ -46,5 +46,5 @@ returns c =
     answered _
     (Answers.passed (known (goal.at.returns c).Start (search))
     (Answers.passed (sym (key-test c.args.b c.args.n c.row_of-row.ensures c.key_or_agent_wrong.ensures) ∙ c.if-key_or_agent_wrong.false)
-    (Answers.passed (sym (force-test c.args.b c.args.n c.row_of-row.ensures c.requires c.in_force.ensures) ∙ c.if-not-in_force.false)
+    (Answers.passed (sym (force-test c.args.b c.args.n c.row_of-row.ensures c.requires c.in_force.ensures) ∙ ap not c.if-not-in_force.false)
     (Answers.passed (sym c.originator_wrong.ensures ∙ c.if-originator_wrong.false) Answers.none))))
