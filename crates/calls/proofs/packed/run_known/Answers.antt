@@ -102,7 +102,7 @@ pub loop-done-preserved : goal.loop-done-preserved
 loop-done-preserved c =
     let t = turn (goal.at.loop-done-preserved c).After-step-one in
     running-one _ _ _ _ _ _ _ t.loop-done.invariant (room t) (more t) c.step-one.result _ _ _ (promised (goal.at.loop-done-preserved c).After-step-one) c.if-one-eq0.false
-    c.step-one.auto.side2 c.step-one.kept.1.1.1.0 c.step-one.kept.1.1.1.1.0
+    c.step-one.auto.held c.step-one.auto.side1 c.step-one.auto.side2
 
 pub shape_of-held : goal.shape_of-held
 shape_of-held c = c.loop-done.invariant.held-length
