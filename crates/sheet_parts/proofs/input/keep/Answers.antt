@@ -41,15 +41,15 @@ loop-from-preserved c =
     let a = (l (goal.at.loop-from-preserved c).After-slice_known-1).args in
     let input = a.input.now in
     let i = (l (goal.at.loop-from-preserved c).After-slice_known-1).loop-from.invariant in
-    let ahead : a.used + (l (goal.at.loop-from-preserved c).After-slice_known-1).loop-from.auto < a.have = omega (arith, at-hand (goal.at.loop-from-preserved c).After-slice_known-1, i.0) in
-    let within : a.used + (l (goal.at.loop-from-preserved c).After-slice_known-1).loop-from.auto < length input = omega (arith, inside (goal.at.loop-from-preserved c).After-slice_known-1, i.0, i.3) in
-    let moved = sets input 0 (take (l (goal.at.loop-from-preserved c).After-slice_known-1).loop-from.auto (kept_of a.used a.have input)) in
-    let more = one-more-kept a.used a.have input (l (goal.at.loop-from-preserved c).After-slice_known-1).loop-from.auto ahead within in (
+    let ahead : a.used + (l (goal.at.loop-from-preserved c).After-slice_known-1).loop-from.kept < a.have = omega (arith, at-hand (goal.at.loop-from-preserved c).After-slice_known-1, i.0) in
+    let within : a.used + (l (goal.at.loop-from-preserved c).After-slice_known-1).loop-from.kept < length input = omega (arith, inside (goal.at.loop-from-preserved c).After-slice_known-1, i.0, i.3) in
+    let moved = sets input 0 (take (l (goal.at.loop-from-preserved c).After-slice_known-1).loop-from.kept (kept_of a.used a.have input)) in
+    let more = one-more-kept a.used a.have input (l (goal.at.loop-from-preserved c).After-slice_known-1).loop-from.kept ahead within in (
       omega (arith, i.0),
       omega (arith, more),
-      ap (λ (x : List ℕ). set x (l (goal.at.loop-from-preserved c).After-slice_known-1).loop-from.auto (get_or x (l (goal.at.loop-from-preserved c).After-slice_known-1).loop-from.from 0)) i.2
-          ∙ ap (λ (k : ℕ). set moved (l (goal.at.loop-from-preserved c).After-slice_known-1).loop-from.auto (get_or moved k 0)) i.0 ∙ kept_more a.used a.have input (l (goal.at.loop-from-preserved c).After-slice_known-1).loop-from.auto more ahead within,
-      length-set (l (goal.at.loop-from-preserved c).After-slice_known-1).loop-from.input (l (goal.at.loop-from-preserved c).After-slice_known-1).loop-from.auto _ ∙ i.3,
+      ap (λ (x : List ℕ). set x (l (goal.at.loop-from-preserved c).After-slice_known-1).loop-from.kept (get_or x (l (goal.at.loop-from-preserved c).After-slice_known-1).loop-from.from 0)) i.2
+          ∙ ap (λ (k : ℕ). set moved (l (goal.at.loop-from-preserved c).After-slice_known-1).loop-from.kept (get_or moved k 0)) i.0 ∙ kept_more a.used a.have input (l (goal.at.loop-from-preserved c).After-slice_known-1).loop-from.kept more ahead within,
+      length-set (l (goal.at.loop-from-preserved c).After-slice_known-1).loop-from.input (l (goal.at.loop-from-preserved c).After-slice_known-1).loop-from.kept _ ∙ i.3,
     )
 
 pub shape_of-input : goal.shape_of-input
@@ -61,9 +61,9 @@ returns c =
     let a = c.args in
     let kept = kept_of a.used a.have a.input.now in
     let from = c.loop-from.from in
-    let ends : a.used + c.loop-from.auto < a.have → length a.input.now ≤ a.used + c.loop-from.auto =
+    let ends : a.used + c.loop-from.kept < a.have → length a.input.now ≤ a.used + c.loop-from.kept =
     λ h.
     let t : ltb from a.have ≡ true = lt-ltb from a.have (omega (arith, h, i.0)) in
     omega (arith, ltb-false from (length c.loop-from.input) (rw t at c.loop-from-test.false), i.0, i.3) in
-    let all = all-kept a.used a.have a.input.now c.loop-from.auto i.1 ends in
+    let all = all-kept a.used a.have a.input.now c.loop-from.kept i.1 ends in
     (i.2 ∙ ap (sets a.input.now 0) (ap (λ (n : ℕ). take n kept) (sym all) ∙ take-length kept), sym all)

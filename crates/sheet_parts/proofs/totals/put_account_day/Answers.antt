@@ -39,5 +39,5 @@ returns c =
     let s = (start (goal.at.returns c).Else-account_days-k).args in
     let lines = account-day s.b s.held.now s.side1.now s.side2.now s.k (some (goal.at.returns c).Else-account_days-k) in
     let p = c.put_day.ensures in
-    let day = ap (day_lines (whole (start (goal.at.returns c).Else-account_days-k)) (s.k / s.b.setup.days)) c.wrapping_add_u16-day.ensures in
+    let day = ap (day_lines (whole (start (goal.at.returns c).Else-account_days-k)) (s.k / s.b.setup.days)) c.wrapping_add_u16-day.ensures.value in
     (p.0 ∙ ap (all_placed s.out.now 0) (day ∙ lines), p.1 ∙ ap (place_after_all (length s.out.now) 0) (day ∙ lines))

@@ -7,12 +7,12 @@ use Rattle.book.specs.Structs.{book_of}
 use Rattle.sheet_parts.proofs.Answers.{Stored, run-few, answers-inside, places-inside}
 use Rattle.sheet_parts.proofs.TurnLaws.{told-inside, turn-told}
 use Rattle.sheet_parts.proofs.turns.turn.Goals as goal
-use Rattle.sheet_parts.proofs.turns.turn.Goals.{After-apply_all-arg-5-1, After-apply_all-ran, After-count_told-told, Start}
+use Rattle.sheet_parts.proofs.turns.turn.Goals.{After-apply_all-ran, After-count_told-told, Start}
 
 -- what is known once the outcomes to be told are counted: the run and the start by their places, all else by these
 module _ (k : After-count_told-told) where
   abbrev ran : After-apply_all-ran
-  ran = (goal.at.After-count_told-told k).After-apply_all-arg-5-1
+  ran = (goal.at.After-count_told-told k).After-apply_all-ran
 
   abbrev start : Start
   start = (goal.at.After-apply_all-ran ran).Start
@@ -29,7 +29,7 @@ module _ (k : After-count_told-told) where
   abbrev run : Run
   run = run_on room before bytes
 
-  stored : Stored run.outcomes start.args.answers.now start.args.places.now ran.apply_all-ran.last.1.1.1.1.1.0 ran.apply_all-ran.last.1.1.1.1.1.1.0
+  stored : Stored run.outcomes start.args.answers.now start.args.places.now ran.apply_all-ran.new.answers ran.apply_all-ran.new.places
   stored =
       record {
         answers-fit = omega (arith, run-few room before bytes);
@@ -67,5 +67,5 @@ returns c =
     let first = c.wrapping_add_u64-first in
     let t = turn-told a.b a.ended (length (bytes (goal.at.returns c).After-count_told-told)) (run_answer (before (goal.at.returns c).After-count_told-told)) (run (goal.at.returns c).After-count_told-told) (ran (goal.at.returns c).After-count_told-told).apply_all-ran.result (stored (goal.at.returns c).After-count_told-told) e.0
     c.last_of-last.result c.count_told-told.result c.is_kept-waiting.result c.last_of-last.ensures c.is_kept-waiting.ensures c.count_told-told.ensures
-    a.seen a.out.now first.result p.result c.wrapping_add_u64.result _ first.ensures p.ensures c.wrapping_add_u64.ensures in
+    a.seen a.out.now first.result p.result c.wrapping_add_u64.result _ first.ensures.value p.ensures c.wrapping_add_u64.ensures.value in
     (t.0, e.1, e.2, e.3, e.4, e.5, t.1)
