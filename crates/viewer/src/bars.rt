@@ -53,10 +53,9 @@ pub extern "C" fn ghendufika_row(
     day: u32,
     side: u32,
 ) -> marks::RowPlace
-    ensures {
-      let before = book_of b held.now side1.now side2.now in
-      let i = named originator reference in
-      (result ≡ row_place before i day side) × (part_at result (table_of side1.now side2.now side) ≡ row before i day side) × ((result.length =? 0) ≡ not (result.answer =? 0)) }
+    ensures { let before = book_of b held.now side1.now side2.now in
+        let i = named originator reference in
+        (result ≡ row_place before i day side) × (part_at result (table_of side1.now side2.now side) ≡ row before i day side) × ((result.length =? 0) ≡ not (result.answer =? 0)) }
 {
     let originator = asked::originator_named(originator, reference);
     let reference = asked::at_most_65535(reference);

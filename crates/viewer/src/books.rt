@@ -44,9 +44,8 @@ pub extern "C" fn ghendufika_open(
     side1: &mut [i32],
     side2: &mut [i32],
 ) -> book::Opened
-    ensures {
-      let a = answer (opening_rules (setup_of s) (length held.old) (length side1.old) (length side2.old)) in
-      (result ≡ opened s a) × (held.new ≡ held_opened a held.old) × (side1.new ≡ side_opened a side1.old) × (side2.new ≡ side_opened a side2.old) }
+    ensures { let a = answer (opening_rules (setup_of s) (length held.old) (length side1.old) (length side2.old)) in
+        (result ≡ opened s a) × (held.new ≡ held_opened a held.old) × (side1.new ≡ side_opened a side1.old) × (side2.new ≡ side_opened a side2.old) }
 {
     book::opening::open(s, held, side1, side2)
 }
@@ -78,10 +77,9 @@ pub extern "C" fn ghendufika_notify(
     side1: &mut [i32],
     side2: &mut [i32],
 ) -> calls::Notified
-    ensures {
-      let before = book_of b held.old side1.old side2.old in
-      let call = message (notification (notification_of n)) in
-      (result ≡ notified_of (notified before (notification_of n))) × (held.new ≡ (after_call before call).ledger.held) × (side1.new ≡ (after_call before call).ledger.side1) × (side2.new ≡ (after_call before call).ledger.side2) }
+    ensures { let before = book_of b held.old side1.old side2.old in
+        let call = message (notification (notification_of n)) in
+        (result ≡ notified_of (notified before (notification_of n))) × (held.new ≡ (after_call before call).ledger.held) × (side1.new ≡ (after_call before call).ledger.side1) × (side2.new ≡ (after_call before call).ledger.side2) }
 {
     calls::notifications::notify(b, n, held, side1, side2)
 }
@@ -96,10 +94,9 @@ pub extern "C" fn ghendufika_nullify(
     side1: &mut [i32],
     side2: &mut [i32],
 ) -> u8
-    ensures {
-      let before = book_of b held.now side1.old side2.old in
-      let call = message (nullification (record { account = account; other = other; first = first })) in
-      (result ≡ refusal before call) × (side1.new ≡ (after_call before call).ledger.side1) × (side2.new ≡ (after_call before call).ledger.side2) }
+    ensures { let before = book_of b held.now side1.old side2.old in
+        let call = message (nullification (record { account = account; other = other; first = first })) in
+        (result ≡ refusal before call) × (side1.new ≡ (after_call before call).ledger.side1) × (side2.new ≡ (after_call before call).ledger.side2) }
 {
     let x = messages::Nullification {
         account: asked::at_most_255(account),
@@ -117,9 +114,8 @@ pub extern "C" fn ghendufika_apply(
     side1: &mut [i32],
     side2: &mut [i32],
 ) -> calls::Applied
-    ensures {
-      let whole = applied (book_of b held.old side1.old side2.old) bytes.now in
-      (result ≡ applied_of b whole) × (held.new ≡ whole.book.ledger.held) × (side1.new ≡ whole.book.ledger.side1) × (side2.new ≡ whole.book.ledger.side2) }
+    ensures { let whole = applied (book_of b held.old side1.old side2.old) bytes.now in
+        (result ≡ applied_of b whole) × (held.new ≡ whole.book.ledger.held) × (side1.new ≡ whole.book.ledger.side1) × (side2.new ≡ whole.book.ledger.side2) }
 {
     calls::packed::apply(b, bytes, held, side1, side2)
 }
@@ -134,10 +130,9 @@ pub extern "C" fn ghendufika_apply_all(
     answers: &mut [u8],
     places: &mut [u8],
 ) -> calls::AppliedAll
-    ensures {
-      let before = book_of b held.old side1.old side2.old in
-      let whole = run_on (min (length answers.old) (length places.old)) before bytes.now in
-      (result ≡ ran_of b (run_answer before) whole) × (held.new ≡ whole.book.ledger.held) × (side1.new ≡ whole.book.ledger.side1) × (side2.new ≡ whole.book.ledger.side2) × (answers.new ≡ sets answers.old 0 (answers_in whole.outcomes)) × (places.new ≡ sets places.old 0 (places_in whole.outcomes)) }
+    ensures { let before = book_of b held.old side1.old side2.old in
+        let whole = run_on (min (length answers.old) (length places.old)) before bytes.now in
+        (result ≡ ran_of b (run_answer before) whole) × (held.new ≡ whole.book.ledger.held) × (side1.new ≡ whole.book.ledger.side1) × (side2.new ≡ whole.book.ledger.side2) × (answers.new ≡ sets answers.old 0 (answers_in whole.outcomes)) × (places.new ≡ sets places.old 0 (places_in whole.outcomes)) }
 {
     calls::packed::apply_all(b, bytes, held, side1, side2, answers, places)
 }
@@ -170,9 +165,8 @@ pub extern "C" fn ghendufika_day_totals(
     day: u32,
     out: &mut [i64],
 ) -> u8
-    ensures {
-      let before = book_of b held.now side1.now side2.now in
-      (result ≡ answer (day_total_rules before account day (length out.old))) × (out.new ≡ day_totals before account day out.old) }
+    ensures { let before = book_of b held.now side1.now side2.now in
+        (result ≡ answer (day_total_rules before account day (length out.old))) × (out.new ≡ day_totals before account day out.old) }
 {
     let account = asked::at_most_255(account);
     let day = asked::at_most_65535(day);
@@ -229,11 +223,10 @@ pub extern "C" fn ghendufika_day_marks(
     firsts: &mut [f64],
     seconds: &mut [f64],
 ) -> u8
-    ensures {
-      let before = book_of b held.now side1.now side2.now in
-      let i = named originator reference in
-      let a = answer (day_mark_rules before i account day (length cases.old) (length firsts.old) (length seconds.old)) in
-      (result ≡ a) × (cases.new ≡ day_marked case_of before i account day a cases.old) × (firsts.new ≡ day_marked first_of before i account day a firsts.old) × (seconds.new ≡ day_marked second_of before i account day a seconds.old) }
+    ensures { let before = book_of b held.now side1.now side2.now in
+        let i = named originator reference in
+        let a = answer (day_mark_rules before i account day (length cases.old) (length firsts.old) (length seconds.old)) in
+        (result ≡ a) × (cases.new ≡ day_marked case_of before i account day a cases.old) × (firsts.new ≡ day_marked first_of before i account day a firsts.old) × (seconds.new ≡ day_marked second_of before i account day a seconds.old) }
 {
     let originator = asked::originator_named(originator, reference);
     let reference = asked::at_most_65535(reference);

@@ -25,9 +25,8 @@ pub extern "C" fn ghendufika_open_checked(
     side1: &mut [i32],
     side2: &mut [i32],
 ) -> book::Opened
-    ensures {
-      let a = answer (checked_opening_rules (setup_of s) (length held.old) (length side1.old) (length side2.old)) in
-      (result ≡ opened s a) × (held.new ≡ held_opened a held.old) × (side1.new ≡ side_opened a side1.old) × (side2.new ≡ side_opened a side2.old) }
+    ensures { let a = answer (checked_opening_rules (setup_of s) (length held.old) (length side1.old) (length side2.old)) in
+        (result ≡ opened s a) × (held.new ≡ held_opened a held.old) × (side1.new ≡ side_opened a side1.old) × (side2.new ≡ side_opened a side2.old) }
 {
     checked_setups::opening::open_checked(s, held, side1, side2)
 }
@@ -39,9 +38,8 @@ pub extern "C" fn ghendufika_open_packed_checked(
     side1: &mut [i32],
     side2: &mut [i32],
 ) -> book::OpenedPacked
-    ensures {
-      let read = read_checked_setup bytes.now (length held.old) (length side1.old) (length side2.old) in
-      (result ≡ opened_packed read) × (held.new ≡ held_opened read.answer held.old) × (side1.new ≡ side_opened read.answer side1.old) × (side2.new ≡ side_opened read.answer side2.old) }
+    ensures { let read = read_checked_setup bytes.now (length held.old) (length side1.old) (length side2.old) in
+        (result ≡ opened_packed read) × (held.new ≡ held_opened read.answer held.old) × (side1.new ≡ side_opened read.answer side1.old) × (side2.new ≡ side_opened read.answer side2.old) }
 {
     checked_setups::reading::open_packed_checked(bytes, held, side1, side2)
 }

@@ -44,9 +44,8 @@ pub extern "C" fn ghendufika_open_packed(
     side1: &mut [i32],
     side2: &mut [i32],
 ) -> book::OpenedPacked
-    ensures {
-      let read = read_setup bytes.now (length held.old) (length side1.old) (length side2.old) in
-      (result ≡ opened_packed read) × (held.new ≡ held_opened read.answer held.old) × (side1.new ≡ side_opened read.answer side1.old) × (side2.new ≡ side_opened read.answer side2.old) }
+    ensures { let read = read_setup bytes.now (length held.old) (length side1.old) (length side2.old) in
+        (result ≡ opened_packed read) × (held.new ≡ held_opened read.answer held.old) × (side1.new ≡ side_opened read.answer side1.old) × (side2.new ≡ side_opened read.answer side2.old) }
 {
     book::opening::open_packed(bytes, held, side1, side2)
 }

@@ -1,0 +1,8 @@
+-- The promise of the function that it calls, whose numbers are narrowed.
+use Rattle.viewer.proofs.Promises.{total_kept}
+use Rattle.viewer.proofs.books.ghendufika_total.Goals as goal
+
+pub returns : goal.returns
+returns c =
+    total_kept _ _ _ _ _ _ _ c.at_most_255-account.ensures c.at_most_65535-day.ensures c.at_most_255-period.ensures _
+    c.total.ensures

@@ -1,0 +1,6 @@
+-- The promise of the function that it calls.
+use Rattle.viewer.proofs.PackedPromises.{ReadsMessage}
+use Rattle.viewer.proofs.packing.ghendufika_read_message.Goals as goal
+
+pub returns : goal.returns
+returns c = let kept : ReadsMessage c.args.bytes.now _ = c.read_message.ensures in kept

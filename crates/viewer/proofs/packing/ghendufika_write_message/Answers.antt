@@ -1,0 +1,9 @@
+-- The promise of the function that it calls.
+use Rattle.viewer.proofs.PackedPromises.{WritesMessage}
+use Rattle.viewer.proofs.packing.ghendufika_write_message.Goals as goal
+
+pub returns : goal.returns
+returns c =
+    let a = c.args in
+    let kept : WritesMessage a.m a.out.now _ _ = c.write_message.ensures in
+    kept

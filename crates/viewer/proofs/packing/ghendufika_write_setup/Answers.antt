@@ -1,0 +1,9 @@
+-- The promise of the function that it calls.
+use Rattle.viewer.proofs.PackedPromises.{WritesSetup}
+use Rattle.viewer.proofs.packing.ghendufika_write_setup.Goals as goal
+
+pub returns : goal.returns
+returns c =
+    let a = c.args in
+    let kept : WritesSetup a.s a.out.now _ _ = c.write_setup.ensures in
+    kept
