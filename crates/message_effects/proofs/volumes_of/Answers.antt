@@ -33,7 +33,7 @@ loop-k-preserved-then-place c =
     let l = c.loop-k in (
       omega arith,
       omega arith,
-      rw (to_z-of_z {w = w32} (record { sfits = c.struct_told-1.given.1.0.1 }), l.invariant.2)
+      rw (to_z-of_z {w = w32} {z = (get_or a.entries (l.k - 1) no_entry).volume} (record { sfits = omega arith }), l.invariant.2)
           (given-stored a.count a.entries (l.k - 1) l.k (omega arith) (omega arith) c.if-place.true),
     )
 

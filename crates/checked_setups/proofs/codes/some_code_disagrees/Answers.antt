@@ -33,13 +33,15 @@ loop-d-init c = (omega arith, some-none _)
 
 pub returns-then-codes-d : goal.returns-then-codes-d
 returns-then-codes-d c =
-    let s = setup (goal.at.returns-then-codes-d c).After-code_of_day-coded in
-    sym (struct-disagrees s ∙ some-hit s.days (disagrees s.first s.codes) (turn (goal.at.returns-then-codes-d c).After-code_of_day-coded) c.loop-d-test.true (verdict (goal.at.returns-then-codes-d c).After-code_of_day-coded ∙ ap not (ne_eqb _ _ c.if-codes-d.true)))
+    let k = (goal.at.returns-then-codes-d c).After-code_of_day-coded in
+    let s = setup k in
+    sym (struct-disagrees s ∙ some-hit s.days (disagrees s.first s.codes) (turn k) c.loop-d-test.true (verdict k ∙ ap not (ne_eqb _ _ c.if-codes-d.true)))
 
 pub loop-d-preserved : goal.loop-d-preserved
 loop-d-preserved c =
-    let s = setup (goal.at.loop-d-preserved c).After-code_of_day-coded in
-    (omega arith, some_more (turn (goal.at.loop-d-preserved c).After-code_of_day-coded) (disagrees s.first s.codes) ∙ neither c.loop-d.invariant.1 (verdict (goal.at.loop-d-preserved c).After-code_of_day-coded ∙ ap not (eq-eqb _ _ c.if-codes-d.false)))
+    let k = (goal.at.loop-d-preserved c).After-code_of_day-coded in
+    let s = setup k in
+    (omega arith, some_more (turn k) (disagrees s.first s.codes) ∙ neither c.loop-d.invariant.1 (verdict k ∙ ap not (eq-eqb _ _ c.if-codes-d.false)))
 
 pub returns : goal.returns
 returns c =

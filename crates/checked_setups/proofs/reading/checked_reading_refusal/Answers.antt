@@ -59,7 +59,8 @@ module _ (c : After-content_in-content) where
 pub returns-then-content-ne0 : goal.returns-then-content-ne0
 unfolding checked_reading_rules
 returns-then-content-ne0 c =
-    answered _ (part-met (content (goal.at.returns-then-content-ne0 c).After-content_in-content) (rest (goal.at.returns-then-content-ne0 c).After-content_in-content) (content-is (goal.at.returns-then-content-ne0 c).After-content_in-content) c.if-content-ne0.true)
+    let k = (goal.at.returns-then-content-ne0 c).After-content_in-content in
+    answered _ (part-met (content k) (rest k) (content-is k) c.if-content-ne0.true)
 
 pub calendar_refusal-refused-requires : goal.calendar_refusal-refused-requires
 calendar_refusal-refused-requires c = counted (goal.at.calendar_refusal-refused-requires c).After-content_in-content c.if-content-ne0.false
@@ -67,24 +68,27 @@ calendar_refusal-refused-requires c = counted (goal.at.calendar_refusal-refused-
 pub returns-then-refused-ne0 : goal.returns-then-refused-ne0
 unfolding checked_reading_rules
 returns-then-refused-ne0 c =
+    let k = (goal.at.returns-then-refused-ne0 c).After-content_in-content in
     answered _
-    (part-passed (content (goal.at.returns-then-refused-ne0 c).After-content_in-content) (rest (goal.at.returns-then-refused-ne0 c).After-content_in-content) (content-is (goal.at.returns-then-refused-ne0 c).After-content_in-content) refl c.if-content-ne0.false
-    (part-met (calendar (goal.at.returns-then-refused-ne0 c).After-content_in-content) (padding_rules (bytes (goal.at.returns-then-refused-ne0 c).After-content_in-content)) (calendar-is (goal.at.returns-then-refused-ne0 c).After-content_in-content c.if-content-ne0.false c.calendar_refusal-refused.ensures) c.if-refused-ne0.true))
+    (part-passed (content k) (rest k) (content-is k) refl c.if-content-ne0.false
+    (part-met (calendar k) (padding_rules (bytes k)) (calendar-is k c.if-content-ne0.false c.calendar_refusal-refused.ensures) c.if-refused-ne0.true))
 
 pub returns-then-padding_set : goal.returns-then-padding_set
 unfolding checked_reading_rules
 returns-then-padding_set c =
-    let asked = calendar-is (goal.at.returns-then-padding_set c).After-content_in-content c.if-content-ne0.false c.calendar_refusal-refused.ensures in
+    let k = (goal.at.returns-then-padding_set c).After-content_in-content in
+    let asked = calendar-is k c.if-content-ne0.false c.calendar_refusal-refused.ensures in
     answered _
-    (part-passed (content (goal.at.returns-then-padding_set c).After-content_in-content) (rest (goal.at.returns-then-padding_set c).After-content_in-content) (content-is (goal.at.returns-then-padding_set c).After-content_in-content) refl c.if-content-ne0.false
-    (part-passed (calendar (goal.at.returns-then-padding_set c).After-content_in-content) (padding_rules (bytes (goal.at.returns-then-padding_set c).After-content_in-content)) asked (calendar-numbered (setup_in (bytes (goal.at.returns-then-padding_set c).After-content_in-content))) c.if-refused-ne0.false
-    (Answers.met (padding-is (goal.at.returns-then-padding_set c).After-content_in-content c.padding_set.ensures ∙ c.if-padding_set.true))))
+    (part-passed (content k) (rest k) (content-is k) refl c.if-content-ne0.false
+    (part-passed (calendar k) (padding_rules (bytes k)) asked (calendar-numbered (setup_in (bytes k))) c.if-refused-ne0.false
+    (Answers.met (padding-is k c.padding_set.ensures ∙ c.if-padding_set.true))))
 
 pub returns : goal.returns
 unfolding checked_reading_rules
 returns c =
-    let asked = calendar-is (goal.at.returns c).After-content_in-content c.if-content-ne0.false c.calendar_refusal-refused.ensures in
+    let k = (goal.at.returns c).After-content_in-content in
+    let asked = calendar-is k c.if-content-ne0.false c.calendar_refusal-refused.ensures in
     answered _
-    (part-passed (content (goal.at.returns c).After-content_in-content) (rest (goal.at.returns c).After-content_in-content) (content-is (goal.at.returns c).After-content_in-content) refl c.if-content-ne0.false
-    (part-passed (calendar (goal.at.returns c).After-content_in-content) (padding_rules (bytes (goal.at.returns c).After-content_in-content)) asked (calendar-numbered (setup_in (bytes (goal.at.returns c).After-content_in-content))) c.if-refused-ne0.false
-    (Answers.passed (padding-is (goal.at.returns c).After-content_in-content c.padding_set.ensures ∙ c.if-padding_set.false) Answers.none)))
+    (part-passed (content k) (rest k) (content-is k) refl c.if-content-ne0.false
+    (part-passed (calendar k) (padding_rules (bytes k)) asked (calendar-numbered (setup_in (bytes k))) c.if-refused-ne0.false
+    (Answers.passed (padding-is k c.padding_set.ensures ∙ c.if-padding_set.false) Answers.none)))
