@@ -6,10 +6,7 @@ ghost use Rattle.std.specs.Prelude.{true, ◌≡◌, ◌≤◌, length};
 
 use book::Book;
 use sheet_parts::{beginning, input, totals, turns};
-
-const STANDARD_INPUT: i32 = 0;
-
-const STANDARD_OUTPUT: i32 = 1;
+use std::io::{Read, Stdin, Stdout, Write};
 
 // Where the program stands between two turns: whether it goes on, how many messages it has told, how many bytes are kept, and the book.
 #[derive(Clone, Copy)]
@@ -36,6 +33,13 @@ fn input_buffer() -> [u8; 2048]
     [0; 2048]
 }
 
+// What is printed is written in here first, a turn or an account's day at a time.
+fn output_buffer() -> [u8; 65536]
+    ensures { 65536 ≡ length result }
+{
+    [0; 65536]
+}
+
 // A side's table for 16 slots and the 15 days that a packed setup can name.
 fn side_table() -> [i32; 12000]
     ensures { 12000 ≡ length result }
@@ -43,23 +47,50 @@ fn side_table() -> [i32; 12000]
     [0; 12000]
 }
 
-// Prints the front of the buffer. No line is written past its end.
-fn print(out: &[u8], written: usize) {
+// Prints the front of the buffer. No line is written past its end. Where a write fails, what is left of these lines is not printed.
+fn print(stdout: &mut Stdout, out: &[u8], written: usize) {
     if written <= out.len() {
-        io::write_all(STANDARD_OUTPUT, &out[..written]);
+        let _ = stdout.write_all(&out[..written]);
     }
 }
 
+// Reads some bytes to the front of the buffer, and answers how many: none where the input has ended, or cannot be read.
+fn read_some(stdin: &mut Stdin, bytes: &mut [u8]) -> usize
+    ensures { result ≤ length bytes.new }
+{
+    match stdin.read(bytes) {
+        Ok(count) => count,
+        Err(_) => 0,
+    }
+}
+
+// Reads until the buffer is full or the input has ended, and answers how many bytes are at its front then.
+fn read_full(stdin: &mut Stdin, bytes: &mut [u8]) -> usize
+    ensures { result ≤ length bytes.new }
+{
+    let mut have = 0;
+    while have < bytes.len() {
+        let more = read_some(stdin, &mut bytes[have..]);
+        if more == 0 {
+            break;
+        }
+        have += more;
+    }
+    have
+}
+
 // Reads on behind the bytes that are kept, and answers how many are at hand then: fewer than there is room for only where the input has ended.
-fn read_on(bytes: &mut [u8], kept: usize) -> usize
+fn read_on(stdin: &mut Stdin, bytes: &mut [u8], kept: usize) -> usize
     requires { kept ≤ length bytes.old }
     ensures { result ≤ length bytes.new }
 {
-    kept + io::read_full(STANDARD_INPUT, &mut bytes[kept..])
+    kept + read_full(stdin, &mut bytes[kept..])
 }
 
 // One turn: more bytes, and the lines of the messages that they complete.
 fn take_turn(
+    stdin: &mut Stdin,
+    stdout: &mut Stdout,
     before: Progress,
     bytes: &mut [u8],
     held: &mut [u32],
@@ -72,7 +103,7 @@ fn take_turn(
     requires { before.kept ≤ length bytes.old }
     ensures { result.kept ≤ length bytes.new }
 {
-    let at_hand = read_on(bytes, before.kept);
+    let at_hand = read_on(stdin, bytes, before.kept);
     let ended = at_hand < bytes.len();
     let b = before.book;
     let told = turns::turn(
@@ -87,7 +118,7 @@ fn take_turn(
         places,
         out,
     );
-    print(out, told.written);
+    print(stdout, out, told.written);
     let after = told.book;
     Progress {
         going: told.going,
@@ -100,6 +131,8 @@ fn take_turn(
 // The messages, turn by turn, until a turn does not go on. A proved loop has to end, and nothing says that the input does: so it may end too after as
 // many turns as 64 bits count, which no run uses up.
 fn print_messages(
+    stdin: &mut Stdin,
+    stdout: &mut Stdout,
     start: Progress,
     bytes: &mut [u8],
     held: &mut [u32],
@@ -117,6 +150,8 @@ fn print_messages(
     let mut turns: u64 = 0;
     while (turns < u64::MAX) & progress.going {
         progress = take_turn(
+            stdin,
+            stdout,
             progress,
             bytes,
             held,
@@ -138,18 +173,27 @@ fn print_messages(
 }
 
 // The totals, rising by account, day and period.
-fn print_totals(b: Book, held: &[u32], side1: &[i32], side2: &[i32], out: &mut [u8]) {
+fn print_totals(
+    stdout: &mut Stdout,
+    b: Book,
+    held: &[u32],
+    side1: &[i32],
+    side2: &[i32],
+    out: &mut [u8],
+) {
     let all = totals::account_days(b);
     let mut k: u16 = 0;
     while k < all {
         let written = totals::put_account_day(b, held, side1, side2, k, out);
-        print(out, written);
+        print(stdout, out, written);
         k += 1;
     }
 }
 
 // What comes after the first line: the messages, the totals and the end.
 fn print_rest(
+    stdin: &mut Stdin,
+    stdout: &mut Stdout,
     start: Progress,
     bytes: &mut [u8],
     held: &mut [u32],
@@ -159,14 +203,16 @@ fn print_rest(
 )
     requires { start.kept ≤ length bytes.old }
 {
-    let end = print_messages(start, bytes, held, side1, side2, out);
+    let end = print_messages(stdin, stdout, start, bytes, held, side1, side2, out);
     let after = end.book;
-    print_totals(after, held, side1, side2, out);
+    print_totals(stdout, after, held, side1, side2, out);
     let written = sheet_lines::put_end_line(out, 0, end.seen);
-    print(out, written);
+    print(stdout, out, written);
 }
 
 fn print_sheet(
+    stdin: &mut Stdin,
+    stdout: &mut Stdout,
     bytes: &mut [u8],
     have: usize,
     held: &mut [u32],
@@ -177,7 +223,7 @@ fn print_sheet(
     requires { have ≤ length bytes.old }
 {
     let begun = beginning::begin(&bytes[..have], held, side1, side2, out);
-    print(out, begun.written);
+    print(stdout, out, begun.written);
     if begun.answer != 0 {
         return;
     }
@@ -188,18 +234,22 @@ fn print_sheet(
         kept: input::keep(bytes, begun.used, have),
         book: b,
     };
-    print_rest(start, bytes, held, side1, side2, out);
+    print_rest(stdin, stdout, start, bytes, held, side1, side2, out);
 }
 
-fn main() {
+fn main(rt: HostRuntime) {
+    let mut stdin = rt.stdin();
+    let mut stdout = rt.stdout();
     let mut bytes = input_buffer();
-    let mut out = io::large_buffer();
+    let mut out = output_buffer();
     let mut held = [0u32; beginning::SLOTS];
     let mut table1 = side_table();
     let mut table2 = side_table();
-    let have = io::read_full(STANDARD_INPUT, &mut bytes);
+    let have = read_full(&mut stdin, &mut bytes);
     let lent = beginning::lent_for(&bytes[..have]);
     print_sheet(
+        &mut stdin,
+        &mut stdout,
         &mut bytes,
         have,
         &mut held,
