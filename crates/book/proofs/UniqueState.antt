@@ -3,7 +3,7 @@ use mathlib.Core.List.{List}
 use mathlib.Core.Path.{ap}
 use Prim.Native.Nat.{ℕ}
 use contract.Lifetimes.{Lfts}
-use denote.Ref.{Bor}
+use denote.MutBor.{MutBor}
 use lib.IntN.{ℤ}
 use Rattle.laws.proofs.Cases.{one-outcome}
 use Rattle.laws.proofs.Promises.{OneOutcome, OneResult}
@@ -57,7 +57,7 @@ unique-open = (
 abbrev pub Opens : Setup → List ℕ → List ℤ → List ℤ → Opened → List ℕ → List ℤ → List ℤ → Type 0
 Opens s held side1 side2 = OpensBy (opening_answer s held side1 side2) s held side1 side2
 
-pub open-promises : (κs : Lfts 3) (s : Setup) (held held' : Bor (List ℕ)) (side1 side1' side2 side2' : Bor (List ℤ)) (r : Opened)
+pub open-promises : (κs : Lfts 3) (s : Setup) (held held' : MutBor (List ℕ)) (side1 side1' side2 side2' : MutBor (List ℤ)) (r : Opened)
     → opening.Post κs (s, (held, (side1, (side2, tt)))) r (s, (held', (side1', (side2', tt))))
     → Opens s held.now side1.now side2.now r held'.now side1'.now side2'.now
 open-promises κs s held held' side1 side1' side2 side2' r p = p

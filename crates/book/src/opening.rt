@@ -72,9 +72,8 @@ fn blank(side: &mut [i32])
 
 // The answer and the opened book, its lent tables emptied. A refusal leaves the three tables as they came.
 pub fn open(s: setups::Setup, held: &mut [u32], side1: &mut [i32], side2: &mut [i32]) -> Opened
-    ensures {
-      let a = answer (opening_rules (setup_of s) (length held.old) (length side1.old) (length side2.old)) in
-      (result ≡ opened s a) × (held.new ≡ held_opened a held.old) × (side1.new ≡ side_opened a side1.old) × (side2.new ≡ side_opened a side2.old) }
+    ensures { let a = answer (opening_rules (setup_of s) (length held.old) (length side1.old) (length side2.old)) in
+        (result ≡ opened s a) × (held.new ≡ held_opened a held.old) × (side1.new ≡ side_opened a side1.old) × (side2.new ≡ side_opened a side2.old) }
 {
     let answer = opening_refusal(s, held.len(), side1.len(), side2.len());
     if answer != 0 {
@@ -101,9 +100,8 @@ pub fn open_packed(
     side1: &mut [i32],
     side2: &mut [i32],
 ) -> OpenedPacked
-    ensures {
-      let read = read_setup bytes.now (length held.old) (length side1.old) (length side2.old) in
-      (result ≡ opened_packed read) × (held.new ≡ held_opened read.answer held.old) × (side1.new ≡ side_opened read.answer side1.old) × (side2.new ≡ side_opened read.answer side2.old) }
+    ensures { let read = read_setup bytes.now (length held.old) (length side1.old) (length side2.old) in
+        (result ≡ opened_packed read) × (held.new ≡ held_opened read.answer held.old) × (side1.new ≡ side_opened read.answer side1.old) × (side2.new ≡ side_opened read.answer side2.old) }
 {
     let read = setup_reading::read_setup(bytes, held.len(), side1.len(), side2.len());
     let setup = read.setup;

@@ -36,10 +36,9 @@ pub fn notify(
     side1: &mut [i32],
     side2: &mut [i32],
 ) -> Notified
-    ensures {
-      let before = book_of b held.old side1.old side2.old in
-      let call = message (notification (notification_of n)) in
-      (result ≡ notified_of (notified before (notification_of n))) × (held.new ≡ (after_call before call).ledger.held) × (side1.new ≡ (after_call before call).ledger.side1) × (side2.new ≡ (after_call before call).ledger.side2) }
+    ensures { let before = book_of b held.old side1.old side2.old in
+        let call = message (notification (notification_of n)) in
+        (result ≡ notified_of (notified before (notification_of n))) × (held.new ≡ (after_call before call).ledger.held) × (side1.new ≡ (after_call before call).ledger.side1) × (side2.new ≡ (after_call before call).ledger.side2) }
 {
     if !soundness::is_sound(b, held, side1, side2) {
         return sound_book::refused(numbers::NOT_SOUND, 0);

@@ -36,10 +36,9 @@ pub fn nullify(
     side1: &mut [i32],
     side2: &mut [i32],
 ) -> u8
-    ensures {
-      let before = book_of b held.now side1.old side2.old in
-      let call = message (nullification (nullification_of x)) in
-      (result ≡ refusal before call) × (side1.new ≡ (after_call before call).ledger.side1) × (side2.new ≡ (after_call before call).ledger.side2) }
+    ensures { let before = book_of b held.now side1.old side2.old in
+        let call = message (nullification (nullification_of x)) in
+        (result ≡ refusal before call) × (side1.new ≡ (after_call before call).ledger.side1) × (side2.new ≡ (after_call before call).ledger.side2) }
 {
     if !soundness::is_sound(b, held, side1, side2) {
         return numbers::NOT_SOUND;

@@ -22,9 +22,8 @@ struct Stepped {
 // A run's step on a book that is known to be sound. A message that is read takes its bytes, whatever the book answers.
 fn step(b: Book, bytes: &[u8], held: &mut [u32], side1: &mut [i32], side2: &mut [i32]) -> Stepped
     requires { sound (book_of b held.old side1.old side2.old) ≡ true }
-    ensures {
-      let whole = stepped (book_of b held.old side1.old side2.old) bytes.now in
-      (result ≡ stepped_of b whole) × (held.new ≡ whole.book.ledger.held) × (side1.new ≡ whole.book.ledger.side1) × (side2.new ≡ whole.book.ledger.side2) }
+    ensures { let whole = stepped (book_of b held.old side1.old side2.old) bytes.now in
+        (result ≡ stepped_of b whole) × (held.new ≡ whole.book.ledger.held) × (side1.new ≡ whole.book.ledger.side1) × (side2.new ≡ whole.book.ledger.side2) }
 {
     let read = message_reading::read_message(bytes);
     if read.answer != 0 {
@@ -69,9 +68,8 @@ pub fn apply(
     side1: &mut [i32],
     side2: &mut [i32],
 ) -> Applied
-    ensures {
-      let whole = applied (book_of b held.old side1.old side2.old) bytes.now in
-      (result ≡ applied_of b whole) × (held.new ≡ whole.book.ledger.held) × (side1.new ≡ whole.book.ledger.side1) × (side2.new ≡ whole.book.ledger.side2) }
+    ensures { let whole = applied (book_of b held.old side1.old side2.old) bytes.now in
+        (result ≡ applied_of b whole) × (held.new ≡ whole.book.ledger.held) × (side1.new ≡ whole.book.ledger.side1) × (side2.new ≡ whole.book.ledger.side2) }
 {
     let known = soundness::is_sound(b, held, side1, side2);
     if !known {
@@ -108,9 +106,8 @@ fn run_known(
     places: &mut [u8],
 ) -> AppliedAll
     requires { sound (book_of b held.old side1.old side2.old) ≡ true }
-    ensures {
-      let whole = applied_all (min (length answers.old) (length places.old)) (book_of b held.old side1.old side2.old) bytes.now in
-      (result ≡ ran_of b 0 whole) × (held.new ≡ whole.book.ledger.held) × (side1.new ≡ whole.book.ledger.side1) × (side2.new ≡ whole.book.ledger.side2) × (answers.new ≡ sets answers.old 0 (answers_in whole.outcomes)) × (places.new ≡ sets places.old 0 (places_in whole.outcomes)) }
+    ensures { let whole = applied_all (min (length answers.old) (length places.old)) (book_of b held.old side1.old side2.old) bytes.now in
+        (result ≡ ran_of b 0 whole) × (held.new ≡ whole.book.ledger.held) × (side1.new ≡ whole.book.ledger.side1) × (side2.new ≡ whole.book.ledger.side2) × (answers.new ≡ sets answers.old 0 (answers_in whole.outcomes)) × (places.new ≡ sets places.old 0 (places_in whole.outcomes)) }
 {
     let mut after = b;
     let mut used: usize = 0;
@@ -150,10 +147,9 @@ pub fn apply_all(
     answers: &mut [u8],
     places: &mut [u8],
 ) -> AppliedAll
-    ensures {
-      let before = book_of b held.old side1.old side2.old in
-      let whole = run_on (min (length answers.old) (length places.old)) before bytes.now in
-      (result ≡ ran_of b (run_answer before) whole) × (held.new ≡ whole.book.ledger.held) × (side1.new ≡ whole.book.ledger.side1) × (side2.new ≡ whole.book.ledger.side2) × (answers.new ≡ sets answers.old 0 (answers_in whole.outcomes)) × (places.new ≡ sets places.old 0 (places_in whole.outcomes)) }
+    ensures { let before = book_of b held.old side1.old side2.old in
+        let whole = run_on (min (length answers.old) (length places.old)) before bytes.now in
+        (result ≡ ran_of b (run_answer before) whole) × (held.new ≡ whole.book.ledger.held) × (side1.new ≡ whole.book.ledger.side1) × (side2.new ≡ whole.book.ledger.side2) × (answers.new ≡ sets answers.old 0 (answers_in whole.outcomes)) × (places.new ≡ sets places.old 0 (places_in whole.outcomes)) }
 {
     if !soundness::is_sound(b, held, side1, side2) {
         return AppliedAll {

@@ -76,10 +76,9 @@ pub(crate) fn do_notification(
     side2: &mut [i32],
 ) -> Notified
     requires { sound (book_of b held.old side1.old side2.old) ≡ true }
-    ensures {
-      let before = book_of b held.old side1.old side2.old in
-      let call = message (notification (notification_of n)) in
-      (result ≡ notified_of (notified before (notification_of n))) × (held.new ≡ (after_call before call).ledger.held) × (side1.new ≡ (after_call before call).ledger.side1) × (side2.new ≡ (after_call before call).ledger.side2) }
+    ensures { let before = book_of b held.old side1.old side2.old in
+        let call = message (notification (notification_of n)) in
+        (result ≡ notified_of (notified before (notification_of n))) × (held.new ≡ (after_call before call).ledger.held) × (side1.new ≡ (after_call before call).ledger.side1) × (side2.new ≡ (after_call before call).ledger.side2) }
 {
     let row = state::row_of(b, n.authorisation as u32);
     let told = judge_notification(b, n, row, held, side1, side2);
@@ -110,10 +109,9 @@ pub(crate) fn do_nullification(
     side2: &mut [i32],
 ) -> u8
     requires { sound (book_of b held.now side1.old side2.old) ≡ true }
-    ensures {
-      let before = book_of b held.now side1.old side2.old in
-      let call = message (nullification (nullification_of x)) in
-      (result ≡ refusal before call) × (side1.new ≡ (after_call before call).ledger.side1) × (side2.new ≡ (after_call before call).ledger.side2) }
+    ensures { let before = book_of b held.now side1.old side2.old in
+        let call = message (nullification (nullification_of x)) in
+        (result ≡ refusal before call) × (side1.new ≡ (after_call before call).ledger.side1) × (side2.new ≡ (after_call before call).ledger.side2) }
 {
     let answer = message_checks::nullifications::judge_nullification(b, x);
     if answer != 0 {
@@ -146,10 +144,9 @@ pub(crate) fn do_message(
     side2: &mut [i32],
 ) -> Done
     requires { sound (book_of b held.old side1.old side2.old) ≡ true }
-    ensures {
-      let before = book_of b held.old side1.old side2.old in
-      let left = (after_message before (message_of m)).ledger in
-      (result ≡ message_done b before (message_of m)) × (held.new ≡ left.held) × (side1.new ≡ left.side1) × (side2.new ≡ left.side2) }
+    ensures { let before = book_of b held.old side1.old side2.old in
+        let left = (after_message before (message_of m)).ledger in
+        (result ≡ message_done b before (message_of m)) × (held.new ≡ left.held) × (side1.new ≡ left.side1) × (side2.new ≡ left.side2) }
 {
     let kind = m.kind;
     match kind {

@@ -4,6 +4,7 @@ use mathlib.Core.List.{List}
 use mathlib.Core.Path.{◌≡◌, sym, ap, ◌∙◌}
 use Prim.Native.Nat.{ℕ}
 use contract.Lifetimes.{Lfts}
+use denote.MutBor.{MutBor}
 use denote.Ref.{Bor}
 use lib.IntN.{ℤ}
 use lib.ListN.{length}
@@ -24,7 +25,7 @@ use Rattle.checked_setups.proofs.reading.open_packed_checked.Reads as open-packe
 abbrev pub OpensChecked : Setup → List ℕ → List ℤ → List ℤ → Opened → List ℕ → List ℤ → List ℤ → Type 0
 OpensChecked s held side1 side2 = OpensBy (checked_answer s held side1 side2) s held side1 side2
 
-pub open-checked-promises : (κs : Lfts 3) (s : Setup) (held held' : Bor (List ℕ)) (side1 side1' side2 side2' : Bor (List ℤ)) (r : Opened)
+pub open-checked-promises : (κs : Lfts 3) (s : Setup) (held held' : MutBor (List ℕ)) (side1 side1' side2 side2' : MutBor (List ℤ)) (r : Opened)
     → open-checked.Post κs (s, (held, (side1, (side2, tt)))) r (s, (held', (side1', (side2', tt))))
     → OpensChecked s held.now side1.now side2.now r held'.now side1'.now side2'.now
 open-checked-promises κs s held held' side1 side1' side2 side2' r p = p
@@ -40,7 +41,7 @@ checked-is-open s held side1 side2 r h l1 l2 p accepted =
 abbrev pub OpensPackedChecked : List ℕ → List ℕ → List ℤ → List ℤ → OpenedPacked → List ℕ → List ℤ → List ℤ → Type 0
 OpensPackedChecked bytes held side1 side2 = OpensPackedBy (read_checked_setup bytes (length held) (length side1) (length side2)) held side1 side2
 
-pub open-packed-checked-promises : (κs : Lfts 4) (bytes bytes' held held' : Bor (List ℕ)) (side1 side1' side2 side2' : Bor (List ℤ)) (r : OpenedPacked)
+pub open-packed-checked-promises : (κs : Lfts 4) (bytes bytes' : Bor (List ℕ)) (held held' : MutBor (List ℕ)) (side1 side1' side2 side2' : MutBor (List ℤ)) (r : OpenedPacked)
     → open-packed-checked.Post κs (bytes, (held, (side1, (side2, tt)))) r (bytes', (held', (side1', (side2', tt))))
     → OpensPackedChecked bytes.now held.now side1.now side2.now r held'.now side1'.now side2'.now
 open-packed-checked-promises κs bytes bytes' held held' side1 side1' side2 side2' r p = p

@@ -26,9 +26,8 @@ pub fn open_checked(
     side1: &mut [i32],
     side2: &mut [i32],
 ) -> book::Opened
-    ensures {
-      let a = answer (checked_opening_rules (setup_of s) (length held.old) (length side1.old) (length side2.old)) in
-      (result ≡ opened s a) × (held.new ≡ held_opened a held.old) × (side1.new ≡ side_opened a side1.old) × (side2.new ≡ side_opened a side2.old) }
+    ensures { let a = answer (checked_opening_rules (setup_of s) (length held.old) (length side1.old) (length side2.old)) in
+        (result ≡ opened s a) × (held.new ≡ held_opened a held.old) × (side1.new ≡ side_opened a side1.old) × (side2.new ≡ side_opened a side2.old) }
 {
     let answer = checked_opening_refusal(s, held.len(), side1.len(), side2.len());
     if answer != 0 {

@@ -50,9 +50,8 @@ pub fn open_packed_checked(
     side1: &mut [i32],
     side2: &mut [i32],
 ) -> book::OpenedPacked
-    ensures {
-      let read = read_checked_setup bytes.now (length held.old) (length side1.old) (length side2.old) in
-      (result ≡ opened_packed read) × (held.new ≡ held_opened read.answer held.old) × (side1.new ≡ side_opened read.answer side1.old) × (side2.new ≡ side_opened read.answer side2.old) }
+    ensures { let read = read_checked_setup bytes.now (length held.old) (length side1.old) (length side2.old) in
+        (result ≡ opened_packed read) × (held.new ≡ held_opened read.answer held.old) × (side1.new ≡ side_opened read.answer side1.old) × (side2.new ≡ side_opened read.answer side2.old) }
 {
     let answer = checked_reading_refusal(bytes, held.len(), side1.len(), side2.len());
     if answer != 0 {

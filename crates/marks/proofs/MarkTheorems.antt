@@ -10,7 +10,6 @@ use lib.Dec.{eqb}
 use lib.Ieee.{Float, fin, neg}
 use lib.IntN.{ℤ, pos, negsuc, neg_ℤ}
 use lib.ListN.{length, take, drop, length-take, length-drop}
-use Rattle.words.specs.Rules.{answer}
 use Rattle.laws.proofs.Cases.{on}
 use Rattle.laws.proofs.Rules.{number_at, Exactly, exactly}
 use Rattle.meaning.specs.Ledgers.{contracts, one, two}
@@ -24,8 +23,7 @@ use Rattle.book.specs.declared.Book.{Book}
 use Rattle.book.specs.Structs.{book_of}
 use Rattle.bar.specs.Figures.{bar_for, no_figure, first_of, second_of}
 use Rattle.marks.specs.Marks.{marked, day_mark_rules}
-use Rattle.bar.specs.declared.Bar.{Bar}
-use Rattle.bar.specs.declared.Bar.TheVariants.{Blank, OneSide, Agreed, Disagreed}
+use Rattle.bar.specs.declared.Bar.TheVariants.{Blank, Agreed}
 use Rattle.marks.specs.declared.Marked.{Marked}
 use Rattle.marks.proofs.RowLaws.{before, start, long, some-long, row_inside, row_answer, Shown, shown, row-refused}
 use Rattle.marks.proofs.MarkLaws.{mark-refused}

@@ -72,9 +72,8 @@ fn write_marks(
     seconds: &mut [f64],
 )
     requires { (start + count ≤ 102400) × (count ≤ length cases.old) × (count ≤ length firsts.old) × (count ≤ length seconds.old) }
-    ensures {
-      let bar = bar_from (row_of row) account side1.now side2.now start in
-      (cases.new ≡ on_front count (λ (p : ℕ) (old : ℕ). case_of (bar p)) cases.old) × (firsts.new ≡ on_front count (λ (p : ℕ) (old : Float). first_of (bar p)) firsts.old) × (seconds.new ≡ on_front count (λ (p : ℕ) (old : Float). second_of (bar p)) seconds.old) }
+    ensures { let bar = bar_from (row_of row) account side1.now side2.now start in
+        (cases.new ≡ on_front count (λ (p : ℕ) (old : ℕ). case_of (bar p)) cases.old) × (firsts.new ≡ on_front count (λ (p : ℕ) (old : Float). first_of (bar p)) firsts.old) × (seconds.new ≡ on_front count (λ (p : ℕ) (old : Float). second_of (bar p)) seconds.old) }
 {
     let mut p: usize = 0;
     while p < count {
@@ -102,11 +101,10 @@ pub fn day_marks(
     firsts: &mut [f64],
     seconds: &mut [f64],
 ) -> u8
-    ensures {
-      let before = book_of b held.now side1.now side2.now in
-      let i = identifier_of originator reference in
-      let a = answer (day_mark_rules before i account day (length cases.old) (length firsts.old) (length seconds.old)) in
-      (result ≡ a) × (cases.new ≡ day_marked case_of before i account day a cases.old) × (firsts.new ≡ day_marked first_of before i account day a firsts.old) × (seconds.new ≡ day_marked second_of before i account day a seconds.old) }
+    ensures { let before = book_of b held.now side1.now side2.now in
+        let i = identifier_of originator reference in
+        let a = answer (day_mark_rules before i account day (length cases.old) (length firsts.old) (length seconds.old)) in
+        (result ≡ a) × (cases.new ≡ day_marked case_of before i account day a cases.old) × (firsts.new ≡ day_marked first_of before i account day a firsts.old) × (seconds.new ≡ day_marked second_of before i account day a seconds.old) }
 {
     let refusal = asking::asking_refusal(b, held, side1, side2, originator, reference, account);
     if refusal != 0 {

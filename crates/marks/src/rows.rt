@@ -103,10 +103,9 @@ pub fn row_place(
     day: u16,
     side: u8,
 ) -> RowPlace
-    ensures {
-      let before = book_of b held.now side1.now side2.now in
-      let i = identifier_of originator reference in
-      (result ≡ row_place before i day side) × (part_at result (table_of side1.now side2.now side) ≡ row before i day side) × ((result.length =? 0) ≡ not (result.answer =? 0)) }
+    ensures { let before = book_of b held.now side1.now side2.now in
+        let i = identifier_of originator reference in
+        (result ≡ row_place before i day side) × (part_at result (table_of side1.now side2.now side) ≡ row before i day side) × ((result.length =? 0) ≡ not (result.answer =? 0)) }
 {
     let answer = row_refusal(b, held, side1, side2, originator, reference, day, side);
     if answer != 0 {

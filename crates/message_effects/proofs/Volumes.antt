@@ -7,7 +7,7 @@ use Prim.Native.Nat.{ℕ, suc, ◌+◌, ◌-◌, ◌≤◌, ◌<◌, min}
 use native.Mathlib.Omega.{arith}
 use lib.Dec.{leb, ltb, eqb}
 use lib.IntN.{ℤ, pos}
-use lib.ListN.{length, get_or, set, drop, replicate, length-set, length-drop, length-map, get_or-eq_default}
+use lib.ListN.{length, get_or, set, drop, replicate, length-set, length-drop, get_or-eq_default}
 use lib.Seq.{drop-cons, get_or-drop, get_or-set_same, get_or-set_other}
 use borrow.Author.Tests.{leb-true, ltb-true, le-leb, lt-ltb, eq-eqb, ne_eqb}
 use Rattle.words.specs.Lists.{build}

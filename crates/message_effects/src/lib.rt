@@ -121,9 +121,8 @@ pub fn write_slot(
     slot: u8,
     n: messages::Notification,
 )
-    ensures {
-      let rule = slot_rule (time_of c) slot n.first (suc n.last) (volume_on (n.first =? n.last) (notification_of n).entries) in
-      (side1.new ≡ cond writes1 (map_at rule side1.old) side1.old) × (side2.new ≡ cond writes2 (map_at rule side2.old) side2.old) }
+    ensures { let rule = slot_rule (time_of c) slot n.first (suc n.last) (volume_on (n.first =? n.last) (notification_of n).entries) in
+        (side1.new ≡ cond writes1 (map_at rule side1.old) side1.old) × (side2.new ≡ cond writes2 (map_at rule side2.old) side2.old) }
 {
     let volumes = volumes_of(n);
     let laid = placing::laid_out(c, n.first == n.last, &volumes);

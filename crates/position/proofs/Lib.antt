@@ -1,5 +1,6 @@
 -- The laws that the functions of `position` are proved by, what the functions promise and their answers are worth, and that each promise has one outcome.
 pub mod TotalLaws
+pub mod Gathering
 pub mod DayLaws
 pub mod FigureLaws
 pub mod Promises

@@ -4,6 +4,7 @@ use mathlib.Core.List.{List}
 use mathlib.Core.Path.{◌≡◌}
 use Prim.Native.Nat.{ℕ}
 use contract.Lifetimes.{Lfts}
+use denote.MutBor.{MutBor}
 use denote.Ref.{Bor}
 use lib.IntN.{ℤ}
 use lib.ListN.{length}
@@ -28,7 +29,7 @@ module _ (b : Book) (held : Bor (List ℕ)) (side1 side2 : Bor (List ℤ)) (acco
       → r ≡ totalled (book_of b held.now side1.now side2.now) account day period
   total-promises κs period r p = p
 
-  pub day-totals-promises : (κs : Lfts 4) (lent left : Bor (List ℤ)) (r : ℕ)
+  pub day-totals-promises : (κs : Lfts 4) (lent left : MutBor (List ℤ)) (r : ℕ)
       → day-totals.Post κs (b, (held, (side1, (side2, (account, (day, (lent, tt))))))) r (b, (held, (side1, (side2, (account, (day, (left, tt)))))))
       → DayTotalled b held.now side1.now side2.now account day lent.now r left.now
   day-totals-promises κs lent left r p = p

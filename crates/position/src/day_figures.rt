@@ -35,10 +35,9 @@ fn slot_sums(
     periods: usize,
 ) -> Sums
     requires { PartInside first periods side1.now side2.now × (periods ≤ 50) }
-    ensures {
-      let sum = slot_part false (row_of origin) account side1.now side2.now first periods in
-      let negated = slot_part true (row_of origin) account side1.now side2.now first periods in
-      SumsOf result sum negated 107374182400 }
+    ensures { let sum = slot_part false (row_of origin) account side1.now side2.now first periods in
+        let negated = slot_part true (row_of origin) account side1.now side2.now first periods in
+        SumsOf result sum negated 107374182400 }
 {
     let mut sold: i64 = 0;
     let mut bought: i64 = 0;
@@ -64,9 +63,8 @@ fn slot_sums(
 // What all slots sold and bought over the day at place d. A sound book's slots are few, so the sums fit and are converted exactly.
 fn day_sums(b: book::Book, held: &[u32], side1: &[i32], side2: &[i32], account: u8, d: u8) -> Sums
     requires { DayAsked (book_of b held.now side1.now side2.now) d }
-    ensures {
-      let before = book_of b held.now side1.now side2.now in
-      SumsOf result (day_sum (part_of false) before account d) (day_sum (part_of true) before account d) 27487790694400 }
+    ensures { let before = book_of b held.now side1.now side2.now in
+        SumsOf result (day_sum (part_of false) before account d) (day_sum (part_of true) before account d) 27487790694400 }
 {
     let periods = clock::periods_at(book::state::clock_of(b), d) as usize;
     let rows = b.setup.rows;

@@ -130,9 +130,8 @@ fn store_totals(
     out: &mut [i64],
 )
     requires { DayAsked (book_of b held.now side1.now side2.now) d × (periods_at (time_in b).codes d ≤ length out.old) }
-    ensures {
-      let before = book_of b held.now side1.now side2.now in
-      out.new ≡ on_front (periods_at (time_in b).codes d) (λ (p : ℕ) (old : ℤ). sum_of before account d (suc p)) out.old }
+    ensures { let before = book_of b held.now side1.now side2.now in
+        out.new ≡ on_front (periods_at (time_in b).codes d) (λ (p : ℕ) (old : ℤ). sum_of before account d (suc p)) out.old }
 {
     let periods = clock::periods_at(book::state::clock_of(b), d) as usize;
     clear(out, periods);
@@ -156,9 +155,8 @@ pub fn day_totals(
     day: u16,
     out: &mut [i64],
 ) -> u8
-    ensures {
-      let before = book_of b held.now side1.now side2.now in
-      (result ≡ answer (day_total_rules before account day (length out.old))) × (out.new ≡ day_totals before account day out.old) }
+    ensures { let before = book_of b held.now side1.now side2.now in
+        (result ≡ answer (day_total_rules before account day (length out.old))) × (out.new ≡ day_totals before account day out.old) }
 {
     let refusal = counting::day_refusal(b, held, side1, side2, account, day);
     if refusal != 0 {

@@ -1,0 +1,17 @@
+-- What is not sound is refused by 1; of a sound book the rules that read no table are left.
+use mathlib.Core.Path.{sym, ◌∙◌}
+use Rattle.calls.proofs.CallLaws.{nullification-answer, nullification-rest}
+use Rattle.calls.proofs.PackedLaws.{unsound-nullifies}
+use Rattle.calls.proofs.nullifications.nullification_refusal.Goals as goal
+
+pub returns-then-not-is_sound : goal.returns-then-not-is_sound
+returns-then-not-is_sound c =
+    let a = c.args in
+    (unsound-nullifies a.b a.held.now a.side1.now a.side2.now a.x (sym c.is_sound.ensures ∙ c.if-not-is_sound.true)).0
+    ∙ sym (nullification-answer a.b a.held.now a.side1.now a.side2.now a.x)
+
+pub returns : goal.returns
+returns c =
+    let a = c.args in
+    c.judge_nullification.ensures
+    ∙ sym (nullification-rest a.b a.held.now a.side1.now a.side2.now a.x (sym c.is_sound.ensures ∙ c.if-not-is_sound.false))

@@ -1,0 +1,30 @@
+-- A day of the book, and then the period by the day's place.
+use mathlib.Core.Path.{◌≡◌, sym, ap, ◌∙◌}
+use Prim.Native.Nat.{ℕ}
+use Rattle.meaning.specs.Time.{Time, is_period_at, has_day}
+use Rattle.book.specs.Structs.{time_in}
+use Rattle.book.proofs.StateLaws.{clock-time}
+use Rattle.marks.proofs.RowLaws.{period-none, period-there}
+use Rattle.marks.proofs.asking.is_period.Goals as goal
+use Rattle.marks.proofs.asking.is_period.Goals.{After-has_day}
+
+has : (c : After-has_day) → c.has_day.result ≡ has_day (time_in c.args.b) c.args.day
+has c =
+    let a = c.args in
+    c.has_day.ensures ∙ ap (λ (t : Time). has_day t a.day) (clock-time a.b c.clock_of-c.ensures)
+
+pub returns-then-not-has_day : goal.returns-then-not-has_day
+returns-then-not-has_day c =
+    let a = c.args in
+    sym (period-none a.b a.day a.period (sym (has (goal.at.returns-then-not-has_day c).After-has_day) ∙ c.if-not-has_day.true))
+
+pub day_of-requires : goal.day_of-requires
+day_of-requires c = sym (has (goal.at.day_of-requires c).After-has_day) ∙ c.if-not-has_day.false
+
+pub returns : goal.returns
+returns c =
+    let a = c.args in
+    c.is_period_at.ensures
+    ∙ ap (λ (t : Time). is_period_at t.codes c.day_of.result a.period) (clock-time a.b c.clock_of-c.ensures)
+    ∙ ap (λ (d : ℕ). is_period_at (time_in a.b).codes d a.period) c.day_of.ensures
+    ∙ sym (period-there a.b a.day a.period (sym (has (goal.at.returns c).After-has_day) ∙ c.if-not-has_day.false))
