@@ -3,6 +3,7 @@ use mathlib.Core.List.{List, ◌++◌}
 use mathlib.Core.Path.{◌≡◌, sym, ap, ◌∙◌}
 use Prim.Native.Nat.{ℕ, ◌≤◌, ◌<◌}
 use contract.Lifetimes.{Lfts}
+use denote.MutBor.{MutBor}
 use denote.Ref.{Bor}
 use lib.ListN.{length, take, drop}
 use Rattle.laws.proofs.Bits.{Bytes}
@@ -36,17 +37,17 @@ unfolding message_read
 read-message-writes bytes out b c e l = rw (read-message-again bytes e) (read-writes bytes out b c e l)
 
 -- the same of the functions' own promises: what `write_message` leaves, `read_message` gives back
-pub write-then-read-message : (κs κs' : Lfts 1) (m : Message) (out left : Bor (List ℕ)) (r : MessageWritten) (r' : MessageRead)
-    → write-message.Post κs (m, (out, tt)) r (m, (left, tt)) → read-message.Post κs' (left, tt) r' (left, tt)
+pub write-then-read-message : (κs κs' : Lfts 1) (m : Message) (out left : MutBor (List ℕ)) (bytes : Bor (List ℕ)) (r : MessageWritten) (r' : MessageRead)
+    → write-message.Post κs (m, (out, tt)) r (m, (left, tt)) → bytes.now ≡ left.now → read-message.Post κs' (bytes, tt) r' (bytes, tt)
     → m.notification.reference < 65536 → r.answer ≡ 0 → r' ≡ record { answer = 0; length = r.length; message = settled m }
-write-then-read-message κs κs' m out left r r' p q h e =
+write-then-read-message κs κs' m out left bytes r r' p same q h e =
     q
-    ∙ ap (λ (bytes : List ℕ). message_read (read_message bytes)) p.1
+    ∙ ap (λ (bytes : List ℕ). message_read (read_message bytes)) (same ∙ p.1)
     ∙ written-message-reads m out.now h (ap (λ (w : MessageWritten). w.answer) (sym p.0) ∙ e)
     ∙ ap (λ (w : MessageWritten). record { answer = 0; length = w.length; message = settled m }) (sym p.0)
 
 -- and what `read_message` gives, `write_message` writes again, over the front of its buffer
-pub read-then-write-message : (κs κs' : Lfts 1) (bytes out left : Bor (List ℕ)) (r : MessageRead) (r' : MessageWritten)
+pub read-then-write-message : (κs κs' : Lfts 1) (bytes : Bor (List ℕ)) (out left : MutBor (List ℕ)) (r : MessageRead) (r' : MessageWritten)
     → read-message.Post κs (bytes, tt) r (bytes, tt) → write-message.Post κs' (r.message, (out, tt)) r' (r.message, (left, tt))
     → Bytes bytes.now → Bytes out.now → r.answer ≡ 0 → r.length ≤ length out.now
     → (r' ≡ record { answer = 0; length = r.length }) × (left.now ≡ take r.length bytes.now ++ drop r.length out.now)

@@ -4,6 +4,7 @@ use mathlib.Core.List.{List, ◌++◌}
 use mathlib.Core.Path.{◌≡◌, sym, ap, ◌∙◌}
 use Prim.Native.Nat.{ℕ, ◌≤◌}
 use contract.Lifetimes.{Lfts}
+use denote.MutBor.{MutBor}
 use denote.Ref.{Bor}
 use lib.ListN.{length, get_or, take, drop}
 use borrow.Author.Tests.{lt-ltb, le-ltb}
@@ -85,17 +86,17 @@ read-setup-writes bytes out slots lent1 lent2 b c e l =
     rw (read-holds bytes slots lent1 lent2 e) (setup-read-writes bytes out slots lent1 lent2 b c e l)
 
 -- the same of the functions' own promises: what `write_setup` leaves, `read_setup` gives back
-pub write-then-read-setup : (κs κs' : Lfts 1) (s : Setup) (out left : Bor (List ℕ)) (slots lent1 lent2 : ℕ) (r : SetupWritten) (r' : SetupRead)
-    → write-setup.Post κs (s, (out, tt)) r (s, (left, tt)) → read-setup.Post κs' (left, (slots, (lent1, (lent2, tt)))) r' (left, (slots, (lent1, (lent2, tt))))
+pub write-then-read-setup : (κs κs' : Lfts 1) (s : Setup) (out left : MutBor (List ℕ)) (bytes : Bor (List ℕ)) (slots lent1 lent2 : ℕ) (r : SetupWritten) (r' : SetupRead)
+    → write-setup.Post κs (s, (out, tt)) r (s, (left, tt)) → bytes.now ≡ left.now → read-setup.Post κs' (bytes, (slots, (lent1, (lent2, tt)))) r' (bytes, (slots, (lent1, (lent2, tt))))
     → r.answer ≡ 0 → lent_wrong (setup_of s) slots lent1 lent2 ≡ false → r' ≡ record { answer = 0; length = r.length; setup = settled s }
-write-then-read-setup κs κs' s out left slots lent1 lent2 r r' p q e h =
+write-then-read-setup κs κs' s out left bytes slots lent1 lent2 r r' p same q e h =
     q
-    ∙ ap (λ (bytes : List ℕ). setup_read (read_setup bytes slots lent1 lent2)) p.1
+    ∙ ap (λ (bytes : List ℕ). setup_read (read_setup bytes slots lent1 lent2)) (same ∙ p.1)
     ∙ written-setup-reads s out.now slots lent1 lent2 (ap (λ (w : SetupWritten). w.answer) (sym p.0) ∙ e) h
     ∙ ap (λ (w : SetupWritten). record { answer = 0; length = w.length; setup = settled s }) (sym p.0)
 
 -- and what `read_setup` gives, `write_setup` writes again, over the front of its buffer
-pub read-then-write-setup : (κs κs' : Lfts 1) (bytes out left : Bor (List ℕ)) (slots lent1 lent2 : ℕ) (r : SetupRead) (r' : SetupWritten)
+pub read-then-write-setup : (κs κs' : Lfts 1) (bytes : Bor (List ℕ)) (out left : MutBor (List ℕ)) (slots lent1 lent2 : ℕ) (r : SetupRead) (r' : SetupWritten)
     → read-setup.Post κs (bytes, (slots, (lent1, (lent2, tt)))) r (bytes, (slots, (lent1, (lent2, tt)))) → write-setup.Post κs' (r.setup, (out, tt)) r' (r.setup, (left, tt))
     → Bytes bytes.now → Bytes out.now → r.answer ≡ 0 → r.length ≤ length out.now
     → (r' ≡ record { answer = 0; length = r.length }) × (left.now ≡ take r.length bytes.now ++ drop r.length out.now)

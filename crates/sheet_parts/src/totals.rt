@@ -40,9 +40,8 @@ fn put_day(
     day: u16,
     out: &mut [u8],
 ) -> usize
-    ensures {
-      let whole = book_of b held.now side1.now side2.now in
-      PutsAll (day_lines whole account day) out.old 0 out.new result }
+    ensures { let whole = book_of b held.now side1.now side2.now in
+        PutsAll (day_lines whole account day) out.old 0 out.new result }
 {
     let mut kwh = [0i64; limits::PLACES_A_DAY];
     position::totals::day_totals(b, held, side1, side2, account, day, &mut kwh);

@@ -1,7 +1,7 @@
 -- The tests of the tables, of every state, every turn and every byte's column, which antt computes.
 use mathlib.Core.Bool.{Bool, true, not, ◌&&◌, ◌||◌}
 use mathlib.Core.Path.{◌≡◌, refl}
-use Prim.Native.Nat.{ℕ, suc, ◌-◌, ◌≤◌, ◌<◌}
+use Prim.Native.Nat.{ℕ, suc, ◌-◌}
 use lib.ListN.{get_or}
 use Rattle.words.specs.Below.{every_below}
 use Rattle.words.specs.Lists.{any, every_from, every_at, join}

@@ -4,7 +4,7 @@ use mathlib.Core.Logic.{◌≢◌}
 use mathlib.Core.Path.{◌≡◌, sym, ap, ◌∙◌, subst}
 use Prim.Native.Nat.{ℕ, ◌≤◌}
 use contract.Lifetimes.{Lfts}
-use denote.Ref.{Bor}
+use denote.MutBor.{MutBor}
 use lib.ListN.{length, take}
 use Rattle.spreadsheets.specs.Structs.{entries_in}
 use Rattle.spreadsheets.specs.Writing.{write_spreadsheet}
@@ -15,7 +15,7 @@ use Rattle.spreadsheet_writing.specs.declared.SpreadsheetWritten.{SpreadsheetWri
 use Rattle.spreadsheet_writing.proofs.write_spreadsheet.Reads as write-spreadsheet
 
 -- THE ROUND TRIP, of what keeps the function's own promise
-module _ (κs : Lfts 1) (x : Spreadsheet) (out left : Bor (List ℕ)) (r : SpreadsheetWritten) (p : write-spreadsheet.Post κs (x, (out, tt)) r (x, (left, tt))) where
+module _ (κs : Lfts 1) (x : Spreadsheet) (out left : MutBor (List ℕ)) (r : SpreadsheetWritten) (p : write-spreadsheet.Post κs (x, (out, tt)) r (x, (left, tt))) where
   -- where the answer is 0, the bytes written are a valid file, hold the entries of x, and are no more than 711
   pub written_back : r.answer ≡ 0 → ReadsBack (entries_in x) (take r.length left.now)
   unfolding spreadsheet_written

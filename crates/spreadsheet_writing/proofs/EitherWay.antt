@@ -5,7 +5,7 @@ use mathlib.Core.Path.{◌≡◌, ap, ◌∙◌}
 use Prim.Native.Nat.{ℕ, ◌≤◌}
 use native.Mathlib.Omega.{arith}
 use contract.Lifetimes.{Lfts}
-use denote.Ref.{Bor}
+use denote.MutBor.{MutBor}
 use lib.ListN.{length, take}
 use lib.Seq.{sets}
 use Rattle.laws.proofs.Bits.{Bytes}
@@ -28,7 +28,7 @@ use Rattle.spreadsheet_writing.proofs.Back.{written_back}
 use Rattle.spreadsheet_writing.proofs.write_spreadsheet.Reads as write-spreadsheet
 
 -- what was written is read, by the length that writing gave: the same entries, with zero past their count
-pub written-reads-back : (κs : Lfts 1) (x : Spreadsheet) (out left : Bor (List ℕ)) (w : SpreadsheetWritten) → write-spreadsheet.Post κs (x, (out, tt)) w (x, (left, tt))
+pub written-reads-back : (κs : Lfts 1) (x : Spreadsheet) (out left : MutBor (List ℕ)) (w : SpreadsheetWritten) → write-spreadsheet.Post κs (x, (out, tt)) w (x, (left, tt))
     → w.answer ≡ 0 → (r : SpreadsheetRead) → Reading (take w.length left.now) r → (r.answer ≡ 0) × (r.spreadsheet ≡ spreadsheet_for (entries_in x))
 written-reads-back κs x out left w p e r reading =
     let s = take w.length left.now in
@@ -38,7 +38,7 @@ written-reads-back κs x out left w p e r reading =
 
 -- what was read is written, into 711 bytes and more, and never refused: the file as it is written of the same entries
 pub read-is-written : (s : List ℕ) → Bytes s → (r : SpreadsheetRead) → Reading s r → r.answer ≡ 0
-    → (κs : Lfts 1) (out left : Bor (List ℕ)) (w : SpreadsheetWritten) → write-spreadsheet.Post κs (r.spreadsheet, (out, tt)) w (r.spreadsheet, (left, tt))
+    → (κs : Lfts 1) (out left : MutBor (List ℕ)) (w : SpreadsheetWritten) → write-spreadsheet.Post κs (r.spreadsheet, (out, tt)) w (r.spreadsheet, (left, tt))
     → 711 ≤ length out.now → (w.answer ≡ 0) × (take w.length left.now ≡ written (entries s))
 unfolding spreadsheet_written
 read-is-written s bytes r reading e κs out left w p room =

@@ -1,7 +1,7 @@
 -- The loop's invariant: the entries passed fit.
 use mathlib.Core.Bool.{Bool, true}
 use mathlib.Core.Path.{◌≡◌, sym, ◌∙◌}
-use Prim.Native.Nat.{ℕ, ◌-◌, ◌≤◌}
+use Prim.Native.Nat.{ℕ, ◌≤◌}
 use native.Mathlib.Omega.{arith}
 use lib.ListN.{get_or}
 use borrow.Author.Tests.{le-leb, lt-leb}
@@ -18,18 +18,6 @@ returns-then-count-gt-MOST_ENTRIES c = rw (lt-leb c.args.n.count 50 c.if-count-g
 pub loop-k-init : goal.loop-k-init
 loop-k-init c = (omega arith, every-none _)
 
-pub overflow_cast-e : goal.overflow_cast-e
-overflow_cast-e c = omega arith
-
-pub offset_bounds-n-k : goal.offset_bounds-n-k
-offset_bounds-n-k c = omega arith
-
-pub bounds-n-k : goal.bounds-n-k
-bounds-n-k c = omega arith
-
-pub entry_fits-requires : goal.entry_fits-requires
-entry_fits-requires c = tt
-
 pub returns-then-not-entry_fits : goal.returns-then-not-entry_fits
 unfolding entries_fit
 returns-then-not-entry_fits c =
@@ -39,12 +27,6 @@ returns-then-not-entry_fits c =
       le-leb n.count 50 c.if-count-gt-MOST_ENTRIES.false,
       every-miss n.count (λ (j : ℕ). entry_fits (get_or n.entries j no_entry)) k (omega arith) (sym c.entry_fits.ensures ∙ c.if-not-entry_fits.true),
     )
-
-pub overflow_add-k : goal.overflow_add-k
-overflow_add-k c = omega arith
-
-pub loop-k-smaller : goal.loop-k-smaller
-loop-k-smaller c = omega arith
 
 pub loop-k-preserved : goal.loop-k-preserved
 loop-k-preserved c =

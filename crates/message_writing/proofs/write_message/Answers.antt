@@ -12,9 +12,6 @@ use Rattle.message_writing.proofs.StructRanges.{held}
 use Rattle.message_writing.proofs.WriteParts.{done-fits, message-into, layout-held}
 use Rattle.message_writing.proofs.write_message.Goals as goal
 
-pub writing_refusal-answer-requires : goal.writing_refusal-answer-requires
-writing_refusal-answer-requires c = tt
-
 pub returns-then-answer-ne0 : goal.returns-then-answer-ne0
 unfolding write_message message_written
 returns-then-answer-ne0 c =
@@ -22,17 +19,8 @@ returns-then-answer-ne0 c =
     let e : answer (writing_rules (message_of a.m) (length a.out.now)) ≡ c.writing_refusal-answer.result = sym c.writing_refusal-answer.ensures in
     simp (e, ne_eqb c.writing_refusal-answer.result 0 c.if-answer-ne0.true) (refl, refl)
 
-pub write_whole-requires : goal.write_whole-requires
-write_whole-requires c = tt
-
-pub count_of-requires : goal.count_of-requires
-count_of-requires c = tt
-
-pub bytes_for-requires : goal.bytes_for-requires
-bytes_for-requires c = tt
-
 pub shape_of-out : goal.shape_of-out
-shape_of-out c = c.write_whole.auto.1.0
+shape_of-out c = c.write_whole.auto.out
 
 pub returns : goal.returns
 unfolding message_written

@@ -4,14 +4,8 @@ use Rattle.fields.specs.Narrow.{write_from}
 use Rattle.message_writing.specs.Writing.{entries_written, notification_written}
 use Rattle.message_writing.proofs.write_notification.Goals as goal
 
-pub write_fields-requires : goal.write_fields-requires
-write_fields-requires c = tt
-
-pub write_entries-requires : goal.write_entries-requires
-write_entries-requires c = tt
-
 pub shape_of-out : goal.shape_of-out
-shape_of-out c = c.write_entries.auto.1.0 ∙ c.write_fields.auto.0
+shape_of-out c = c.write_entries.auto.out ∙ c.write_fields.auto.dst
 
 pub returns : goal.returns
 unfolding notification_written write_from

@@ -10,28 +10,16 @@ use Rattle.message_writing.proofs.WriteParts.{refused-20, refused-23, refused-24
 use Rattle.message_writing.proofs.writing_refusal.Goals as goal
 use Rattle.message_writing.proofs.writing_refusal.Goals.{After-bytes_for}
 
-pub kind_refusal-requires : goal.kind_refusal-requires
-kind_refusal-requires c = tt
-
 pub returns-then-kind-eq3 : goal.returns-then-kind-eq3
 returns-then-kind-eq3 c =
     let a = c.args in
     c.kind_refusal.ensures ∙ ap kind_refusal c.if-kind-eq3.true ∙ sym (refused-20 a.m a.room c.if-kind-eq3.true)
-
-pub message_fits-requires : goal.message_fits-requires
-message_fits-requires c = tt
 
 pub returns-then-not-message_fits : goal.returns-then-not-message_fits
 returns-then-not-message_fits c =
     sym
     (refused-23 c.args.m c.args.room (held c.args.m c.well_formed.0) c.if-kind-eq3.false
     (sym c.message_fits.ensures ∙ c.if-not-message_fits.true))
-
-pub count_of-requires : goal.count_of-requires
-count_of-requires c = tt
-
-pub bytes_for-requires : goal.bytes_for-requires
-bytes_for-requires c = tt
 
 -- the bytes that the whole message takes
 whole : (c : After-bytes_for) → c.bytes_for.result ≡ bytes_for (layout_for c.args.m.kind (count_of c.args.m))

@@ -1,12 +1,11 @@
 -- After d turns the codes of the days below d are written.
-use mathlib.Core.Logic.{⊎_elim}
 use mathlib.Core.Path.{◌≡◌, sym, ap, ◌∙◌}
-use Prim.Native.Nat.{◌-◌}
 use native.Mathlib.Omega.{arith}
 use lib.ListN.{length}
 use borrow.Author.Tests.{lt-ltb, le-ltb}
 use Rattle.setup_writing.proofs.WriteParts.{codes-into-none, codes-into-more, codes-into-length}
 use Rattle.setup_writing.proofs.write_codes.Goals as goal
+use Rattle.setup_writing.proofs.write_codes.Goals.{then-d-days, else-d-days}
 
 pub loop-d-init : goal.loop-d-init
 loop-d-init c = (omega arith, sym (codes-into-none _ _))
@@ -17,10 +16,10 @@ loop-d-preserved c =
     let l = c.loop-d in
     let more = codes-into-more a.s a.out.now l.d in (
       omega arith,
-      ⊎_elim
-          (λ w. w.5 ∙ w.2.ensures ∙ rw l.invariant.1 (sym (more ∙ rw (lt-ltb l.d a.s.days w.0.taken))))
-          (λ w. w.1 ∙ l.invariant.1 ∙ sym (more ∙ rw (le-ltb l.d a.s.days w.0.left)))
-          c.if-d-days.branch,
+      elim c.if-d-days.branch [
+        | then-d-days w ↦ w.out-is ∙ w.write_field.ensures ∙ rw l.invariant.1 (sym (more ∙ rw (lt-ltb l.d a.s.days w.if-d-days.true)))
+        | else-d-days w ↦ w.out-is ∙ l.invariant.1 ∙ sym (more ∙ rw (le-ltb l.d a.s.days w.if-d-days.false))
+      ],
     )
 
 pub shape_of-out : goal.shape_of-out

@@ -1,12 +1,11 @@
 -- After k turns the rows below k are written.
-use mathlib.Core.Logic.{⊎_elim}
 use mathlib.Core.Path.{◌≡◌, sym, ap, ◌∙◌}
-use Prim.Native.Nat.{◌-◌}
 use native.Mathlib.Omega.{arith}
 use lib.ListN.{length}
 use borrow.Author.Tests.{lt-ltb, le-ltb}
 use Rattle.setup_writing.proofs.WriteParts.{rows-into-none, rows-into-more, rows-into-length}
 use Rattle.setup_writing.proofs.write_rows.Goals as goal
+use Rattle.setup_writing.proofs.write_rows.Goals.{then-k-count, else-k-count}
 
 pub loop-k-init : goal.loop-k-init
 loop-k-init c = (omega arith, sym (rows-into-none _ _))
@@ -17,10 +16,10 @@ loop-k-preserved c =
     let l = c.loop-k in
     let more = rows-into-more a.s a.out.now l.k in (
       omega arith,
-      ⊎_elim
-          (λ w. w.6 ∙ w.3.ensures ∙ rw (w.1.ensures, l.invariant.1) (sym (more ∙ rw (lt-ltb l.k a.s.authorisations w.0.taken))))
-          (λ w. w.1 ∙ l.invariant.1 ∙ sym (more ∙ rw (le-ltb l.k a.s.authorisations w.0.left)))
-          c.if-k-count.branch,
+      elim c.if-k-count.branch [
+        | then-k-count w ↦ w.out-is ∙ w.write_row.ensures ∙ rw (w.bits_for.ensures, l.invariant.1) (sym (more ∙ rw (lt-ltb l.k a.s.authorisations w.if-k-count.true)))
+        | else-k-count w ↦ w.out-is ∙ l.invariant.1 ∙ sym (more ∙ rw (le-ltb l.k a.s.authorisations w.if-k-count.false))
+      ],
     )
 
 pub shape_of-out : goal.shape_of-out

@@ -11,7 +11,7 @@ use Rattle.meaning.specs.PackedSetups.{setup_layout, setup_values, setup_writing
 use Rattle.setups.specs.Structs.{setup_of}
 use Rattle.setup_writing.proofs.ValuesFit.{layout-own, setup-fits}
 use Rattle.setup_writing.proofs.writing_refusal.Goals as goal
-use Rattle.setup_writing.proofs.writing_refusal.Goals.{After-bytes_for, After-code_wrong, Start}
+use Rattle.setup_writing.proofs.writing_refusal.Goals.{After-bytes_for, After-code_wrong}
 
 -- what the first test tests
 seventeen : (c : After-code_wrong)
@@ -32,11 +32,8 @@ returns-then-some_row_wrong c =
 
 -- where 17 and 18 have passed
 module _ (c : After-bytes_for) where
-  abbrev start : Start
-  start = (goal.at.After-bytes_for c).Start
-
   abbrev setup : Books.Setup
-  setup = setup_of start.args.s
+  setup = setup_of c.args.s
 
   passed : counts_wrong setup || last_day_wrong setup || code_wrong setup ≡ false
   passed = seventeen (goal.at.After-bytes_for c).After-code_wrong ∙ c.if-counts_wrong-last_day_wrong.false
@@ -48,17 +45,19 @@ module _ (c : After-bytes_for) where
   fits =
       let two = counts_wrong setup || last_day_wrong setup in
       let counts = or_left (counts_wrong setup) (last_day_wrong setup) (or_left two (code_wrong setup) passed) in
-      setup-fits start.args.s start.well_formed.0 counts (or_right two (code_wrong setup) passed) rows_right
+      setup-fits c.args.s c.well_formed.0 counts (or_right two (code_wrong setup) passed) rows_right
 
   bytes : c.bytes_for.result ≡ bytes_for (setup_layout setup)
-  bytes = c.bytes_for.ensures ∙ ap bytes_for (sym (layout-own start.args.s))
+  bytes = c.bytes_for.ensures ∙ ap bytes_for (sym (layout-own c.args.s))
 
 pub returns-then-room-bytes_for : goal.returns-then-room-bytes_for
 unfolding answer setup_writing_rules
 returns-then-room-bytes_for c =
-    rw (passed (goal.at.returns-then-room-bytes_for c).After-bytes_for, rows_right (goal.at.returns-then-room-bytes_for c).After-bytes_for, fits (goal.at.returns-then-room-bytes_for c).After-bytes_for, lt-ltb (start (goal.at.returns-then-room-bytes_for c).After-bytes_for).args.room (bytes_for (setup_layout (setup (goal.at.returns-then-room-bytes_for c).After-bytes_for))) (rw (bytes (goal.at.returns-then-room-bytes_for c).After-bytes_for) at c.if-room-bytes_for.true))
+    let here = (goal.at.returns-then-room-bytes_for c).After-bytes_for in
+    rw (passed here, rows_right here, fits here, lt-ltb c.args.room (bytes_for (setup_layout (setup here))) (rw (bytes here) at c.if-room-bytes_for.true))
 
 pub returns : goal.returns
 unfolding answer setup_writing_rules
 returns c =
-    rw (passed (goal.at.returns c).After-bytes_for, rows_right (goal.at.returns c).After-bytes_for, fits (goal.at.returns c).After-bytes_for, le-ltb (start (goal.at.returns c).After-bytes_for).args.room (bytes_for (setup_layout (setup (goal.at.returns c).After-bytes_for))) (rw (bytes (goal.at.returns c).After-bytes_for) at c.if-room-bytes_for.false))
+    let here = (goal.at.returns c).After-bytes_for in
+    rw (passed here, rows_right here, fits here, le-ltb c.args.room (bytes_for (setup_layout (setup here))) (rw (bytes here) at c.if-room-bytes_for.false))

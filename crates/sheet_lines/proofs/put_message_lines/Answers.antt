@@ -53,16 +53,16 @@ loop-k-smaller c =
 pub loop-k-preserved : goal.loop-k-preserved
 loop-k-preserved c =
     let w = c.put_message_line-next in
-    let l = (turn (goal.at.loop-k-preserved c).In-loop-k).loop-k in
+    let l = c.loop-k in
     let then = c.wrapping_add_u64-number in
-    let out = (start (goal.at.loop-k-preserved c).In-loop-k).args.out.now in
+    let out = c.args.out.now in
     let told = outcomes_of (answers (goal.at.loop-k-preserved c).In-loop-k) (places (goal.at.loop-k-preserved c).In-loop-k) in
     let more : l.k < length told = omega (arith, outcomes-count (answers (goal.at.loop-k-preserved c).In-loop-k) (places (goal.at.loop-k-preserved c).In-loop-k), answer-left (goal.at.loop-k-preserved c).In-loop-k, place-left (goal.at.loop-k-preserved c).In-loop-k) in
     let line = rw (← (outcome-at (answers (goal.at.loop-k-preserved c).In-loop-k) (places (goal.at.loop-k-preserved c).In-loop-k) l.k (answer-left (goal.at.loop-k-preserved c).In-loop-k) (place-left (goal.at.loop-k-preserved c).In-loop-k))) at w.ensures in
     let e : length l.out ≡ length out = l.invariant.2 in (
-      message-placed told l.k l.number more l.out _ l.next w.result then.result line.0 line.1 then.ensures ∙ l.invariant.0,
-      message-after told l.k l.number more (length out) l.next w.result then.result (rw e at line.1) then.ensures ∙ l.invariant.1,
-      w.kept.0 ∙ e,
+      message-placed told l.k l.number more l.out _ l.next w.result then.result line.0 line.1 then.ensures.value ∙ l.invariant.0,
+      message-after told l.k l.number more (length out) l.next w.result then.result (rw e at line.1) then.ensures.value ∙ l.invariant.1,
+      w.auto.out ∙ e,
     )
 
 pub shape_of-out : goal.shape_of-out
