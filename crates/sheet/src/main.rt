@@ -1,15 +1,22 @@
 // The sheet program (document 01, "The sheet program"): reads a setup and then messages from standard input, however many, and prints the sheet.
-// What is printed is decided by the proved parts in crate sheet_parts; here is reading, lending and printing.
+// What is printed is decided by the proved parts in crate sheet_parts; here is reading, lending and printing. Where standard input cannot be read or
+// standard output not be written, nothing more is read or printed, and the program ends with that error.
 #![tactic(auto)]
 
 ghost use Rattle.std.specs.Prelude.{true, ◌≡◌, ◌≤◌, length};
 
 use book::Book;
 use sheet_parts::{beginning, input, totals, turns};
+use std::io;
+use std::io::{Read, Stdin, Stdout, Write};
 
-const STANDARD_INPUT: i32 = 0;
-
-const STANDARD_OUTPUT: i32 = 1;
+// Standard input and output, and the first error that either gave, if one did. From then on nothing more is read or printed.
+#[derive(Drop)]
+struct Streams {
+    stdin: Stdin,
+    stdout: Stdout,
+    so_far: io::Result<()>,
+}
 
 // Where the program stands between two turns: whether it goes on, how many messages it has told, how many bytes are kept, and the book.
 #[derive(Clone, Copy)]
@@ -36,6 +43,13 @@ fn input_buffer() -> [u8; 2048]
     [0; 2048]
 }
 
+// What is printed is written in here first, a turn or an account's day at a time.
+fn output_buffer() -> [u8; 65536]
+    ensures { 65536 ≡ length result }
+{
+    [0; 65536]
+}
+
 // A side's table for 16 slots and the 15 days that a packed setup can name.
 fn side_table() -> [i32; 12000]
     ensures { 12000 ≡ length result }
@@ -44,22 +58,54 @@ fn side_table() -> [i32; 12000]
 }
 
 // Prints the front of the buffer. No line is written past its end.
-fn print(out: &[u8], written: usize) {
-    if written <= out.len() {
-        io::write_all(STANDARD_OUTPUT, &out[..written]);
+fn print(streams: &mut Streams, out: &[u8], written: usize) {
+    if written <= out.len() && streams.so_far.is_ok() {
+        streams.so_far = streams.stdout.write_all(&out[..written]);
     }
 }
 
+// Reads some bytes to the front of the buffer, and answers how many: none where the input has ended.
+fn read_some(streams: &mut Streams, bytes: &mut [u8]) -> usize
+    ensures { result ≤ length bytes.new }
+{
+    if streams.so_far.is_err() {
+        return 0;
+    }
+    match streams.stdin.read(bytes) {
+        Ok(count) => count,
+        Err(error) => {
+            streams.so_far = Err(error);
+            0
+        }
+    }
+}
+
+// Reads until the buffer is full or the input has ended, and answers how many bytes are at its front then.
+fn read_full(streams: &mut Streams, bytes: &mut [u8]) -> usize
+    ensures { result ≤ length bytes.new }
+{
+    let mut have = 0;
+    while have < bytes.len() {
+        let more = read_some(streams, &mut bytes[have..]);
+        if more == 0 {
+            break;
+        }
+        have += more;
+    }
+    have
+}
+
 // Reads on behind the bytes that are kept, and answers how many are at hand then: fewer than there is room for only where the input has ended.
-fn read_on(bytes: &mut [u8], kept: usize) -> usize
+fn read_on(streams: &mut Streams, bytes: &mut [u8], kept: usize) -> usize
     requires { kept ≤ length bytes.old }
     ensures { result ≤ length bytes.new }
 {
-    kept + io::read_full(STANDARD_INPUT, &mut bytes[kept..])
+    kept + read_full(streams, &mut bytes[kept..])
 }
 
 // One turn: more bytes, and the lines of the messages that they complete.
 fn take_turn(
+    streams: &mut Streams,
     before: Progress,
     bytes: &mut [u8],
     held: &mut [u32],
@@ -72,7 +118,7 @@ fn take_turn(
     requires { before.kept ≤ length bytes.old }
     ensures { result.kept ≤ length bytes.new }
 {
-    let at_hand = read_on(bytes, before.kept);
+    let at_hand = read_on(streams, bytes, before.kept);
     let ended = at_hand < bytes.len();
     let b = before.book;
     let told = turns::turn(
@@ -87,7 +133,7 @@ fn take_turn(
         places,
         out,
     );
-    print(out, told.written);
+    print(streams, out, told.written);
     let after = told.book;
     Progress {
         going: told.going,
@@ -100,6 +146,7 @@ fn take_turn(
 // The messages, turn by turn, until a turn does not go on. A proved loop has to end, and nothing says that the input does: so it may end too after as
 // many turns as 64 bits count, which no run uses up.
 fn print_messages(
+    streams: &mut Streams,
     start: Progress,
     bytes: &mut [u8],
     held: &mut [u32],
@@ -117,6 +164,7 @@ fn print_messages(
     let mut turns: u64 = 0;
     while (turns < u64::MAX) & progress.going {
         progress = take_turn(
+            streams,
             progress,
             bytes,
             held,
@@ -138,18 +186,26 @@ fn print_messages(
 }
 
 // The totals, rising by account, day and period.
-fn print_totals(b: Book, held: &[u32], side1: &[i32], side2: &[i32], out: &mut [u8]) {
+fn print_totals(
+    streams: &mut Streams,
+    b: Book,
+    held: &[u32],
+    side1: &[i32],
+    side2: &[i32],
+    out: &mut [u8],
+) {
     let all = totals::account_days(b);
     let mut k: u16 = 0;
     while k < all {
         let written = totals::put_account_day(b, held, side1, side2, k, out);
-        print(out, written);
+        print(streams, out, written);
         k += 1;
     }
 }
 
 // What comes after the first line: the messages, the totals and the end.
 fn print_rest(
+    streams: &mut Streams,
     start: Progress,
     bytes: &mut [u8],
     held: &mut [u32],
@@ -159,14 +215,15 @@ fn print_rest(
 )
     requires { start.kept ≤ length bytes.old }
 {
-    let end = print_messages(start, bytes, held, side1, side2, out);
+    let end = print_messages(streams, start, bytes, held, side1, side2, out);
     let after = end.book;
-    print_totals(after, held, side1, side2, out);
+    print_totals(streams, after, held, side1, side2, out);
     let written = sheet_lines::put_end_line(out, 0, end.seen);
-    print(out, written);
+    print(streams, out, written);
 }
 
 fn print_sheet(
+    streams: &mut Streams,
     bytes: &mut [u8],
     have: usize,
     held: &mut [u32],
@@ -177,7 +234,7 @@ fn print_sheet(
     requires { have ≤ length bytes.old }
 {
     let begun = beginning::begin(&bytes[..have], held, side1, side2, out);
-    print(out, begun.written);
+    print(streams, out, begun.written);
     if begun.answer != 0 {
         return;
     }
@@ -188,18 +245,24 @@ fn print_sheet(
         kept: input::keep(bytes, begun.used, have),
         book: b,
     };
-    print_rest(start, bytes, held, side1, side2, out);
+    print_rest(streams, start, bytes, held, side1, side2, out);
 }
 
-fn main() {
+fn main(rt: HostRuntime) -> io::Result<()> {
+    let mut streams = Streams {
+        stdin: rt.stdin(),
+        stdout: rt.stdout(),
+        so_far: Ok(()),
+    };
     let mut bytes = input_buffer();
-    let mut out = io::large_buffer();
+    let mut out = output_buffer();
     let mut held = [0u32; beginning::SLOTS];
     let mut table1 = side_table();
     let mut table2 = side_table();
-    let have = io::read_full(STANDARD_INPUT, &mut bytes);
+    let have = read_full(&mut streams, &mut bytes);
     let lent = beginning::lent_for(&bytes[..have]);
     print_sheet(
+        &mut streams,
         &mut bytes,
         have,
         &mut held,
@@ -207,4 +270,10 @@ fn main() {
         &mut table2[..lent],
         &mut out,
     );
+    let Streams {
+        stdin: _,
+        stdout: _,
+        so_far,
+    } = streams;
+    so_far
 }
