@@ -1,6 +1,6 @@
 -- What opening gives with an answer, which is 0 where it is accepted.
-use Rattle.std.specs.Prelude.{List, ℕ, ℤ, length, replicate}
-use Rattle.words.specs.Tests.{if◌then◌else◌, ◌=?◌}
+use Rattle.std.specs.Prelude.{List, ℕ, ℤ, length, replicate, if◌then◌else◌}
+use Rattle.words.specs.Tests.{◌=?◌}
 use Rattle.meaning.specs.Ledgers.{the_mark}
 use Rattle.meaning.specs.Books as Meaning
 use Rattle.meaning.specs.PackedMessages.{Reading}

@@ -1,6 +1,6 @@
 -- The structs of `book` and the lent tables, and the book that they hold together.
-use Rattle.std.specs.Prelude.{◌&&◌, List, ℕ, zero, suc, ◌-◌, min, ℤ}
-use Rattle.words.specs.Tests.{if◌then◌else◌, ◌<?◌}
+use Rattle.std.specs.Prelude.{◌&&◌, List, ℕ, zero, suc, ◌-◌, min, ℤ, if◌then◌else◌}
+use Rattle.words.specs.Tests.{◌<?◌}
 use Rattle.meaning.specs.Time.{Time}
 use Rattle.meaning.specs.Authorisations.{Authorisation}
 use Rattle.meaning.specs.Settings.{Setting}

@@ -5,7 +5,8 @@ use mathlib.Core.Path.{◌≡◌, refl, sym}
 use Prim.Native.Nat.{ℕ, ◌+◌, ◌-◌, ◌/◌, ◌≤◌, ◌<◌}
 use borrow.Author.Tests.{lt-ltb, le-ltb, le-leb, lt-leb}
 use lib.ListN.{get_or}
-use Rattle.words.specs.Tests.{if◌then◌else◌, ◌=?◌, ◌<?◌, ◌≤?◌}
+use Rattle.std.specs.Prelude.{if◌then◌else◌}
+use Rattle.words.specs.Tests.{◌=?◌, ◌<?◌, ◌≤?◌}
 use Rattle.words.specs.Below.{every_below}
 use Rattle.calendar.specs.Calendar.{before_month, year_length, month_of, opened}
 use Rattle.laws.proofs.Tested.{same-below}

@@ -4,7 +4,8 @@ use mathlib.Core.Path.{◌≡◌, refl, sym, ap, ◌∙◌}
 use Prim.Native.Nat.{ℕ, suc, ◌+◌, ◌-◌, ◌≤◌, ◌<◌}
 use native.Mathlib.Omega.{arith}
 use borrow.Author.Tests.{le-leb, lt-ltb, le-ltb}
-use Rattle.words.specs.Tests.{if◌then◌else◌, ◌=?◌, ◌≤?◌, ◌<?◌}
+use Rattle.std.specs.Prelude.{if◌then◌else◌}
+use Rattle.words.specs.Tests.{◌=?◌, ◌≤?◌, ◌<?◌}
 use Rattle.words.specs.Below.{every_below}
 use Rattle.laws.proofs.Cases.{by-lt}
 use Rattle.calendar.specs.Calendar.{Date, is_leap, month_length, before_month, year_length, before_year, is_day, is_date, day_of_date, date_of_day, opened}

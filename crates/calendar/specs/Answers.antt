@@ -1,6 +1,6 @@
 -- What the calendar's functions give: 27 and zeros for a day or a date that is not in 2000 to 2099.
-use Rattle.std.specs.Prelude.{not, ◌||◌, List, ℕ, ◌+◌, replicate}
-use Rattle.words.specs.Tests.{if◌then◌else◌, ◌<?◌, ◌=?◌, between}
+use Rattle.std.specs.Prelude.{not, ◌||◌, List, ℕ, ◌+◌, replicate, if◌then◌else◌}
+use Rattle.words.specs.Tests.{◌<?◌, ◌=?◌, between}
 use Rattle.words.specs.Lists.{build}
 use Rattle.words.specs.Rules.{Rule, ◌when◌else◌, done, answer}
 use Rattle.meaning.specs.Time.{evergreen}

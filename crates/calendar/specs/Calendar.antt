@@ -1,6 +1,6 @@
 -- Document 02, A2: the calendar from 2000 to 2099. Day 0 is 1 January 2000, and a day is counted by the years, the months and the days before it.
-use Rattle.std.specs.Prelude.{Bool, not, ◌&&◌, ◌||◌, [], ◌∷◌, ℕ, suc, ◌+◌, ◌-◌, ◌*◌, ◌/◌, ◌%◌, get_or}
-use Rattle.words.specs.Tests.{if◌then◌else◌, ◌<?◌, ◌=?◌, between}
+use Rattle.std.specs.Prelude.{Bool, not, ◌&&◌, ◌||◌, [], ◌∷◌, ℕ, suc, ◌+◌, ◌-◌, ◌*◌, ◌/◌, ◌%◌, get_or, if◌then◌else◌}
+use Rattle.words.specs.Tests.{◌<?◌, ◌=?◌, between}
 use Rattle.words.specs.Below.{some_below, first_below, sum_below}
 
 -- Months count from 1, days of a month too.

@@ -1,7 +1,7 @@
 -- Document 02, A2: "a table of the 200 clock-change days from 2000 to 2099", March and October by turns, "with its rule". It is the code's `CHANGE_DAYS`
 -- (src/lengths.rt) number by number, and no meaning rests on it: the rule is proved of it (proofs/Table.antt).
-use Rattle.std.specs.Prelude.{Bool, ◌&&◌, List, [], ◌∷◌, ℕ, ◌+◌, ◌/◌, ◌%◌}
-use Rattle.words.specs.Tests.{if◌then◌else◌, ◌=?◌}
+use Rattle.std.specs.Prelude.{Bool, ◌&&◌, List, [], ◌∷◌, ℕ, ◌+◌, ◌/◌, ◌%◌, if◌then◌else◌}
+use Rattle.words.specs.Tests.{◌=?◌}
 use Rattle.calendar.specs.Calendar.{year_of, is_day, is_last_sunday}
 
 unfoldable pub change_days : List ℕ

@@ -9,7 +9,7 @@ use lib.Dec.{eqb}
 use lib.IntN.{ℤ}
 use lib.ListN.{length}
 use borrow.Author.Tests.{leb-false}
-use Rattle.words.specs.Tests.{if◌then◌else◌}
+use Rattle.std.specs.Prelude.{if◌then◌else◌}
 use Rattle.words.specs.Rules.{answer}
 use Rattle.laws.proofs.Cases.{on}
 use Rattle.meaning.specs.Time.{all_gates, every_gate_closed, with_gate_closed}

@@ -1,6 +1,6 @@
 -- What the calls on a book give with an answer, which is 0 where the call is accepted, and what they leave.
-use Rattle.std.specs.Prelude.{ℕ, ◌+◌, length}
-use Rattle.words.specs.Tests.{if◌then◌else◌, ◌=?◌}
+use Rattle.std.specs.Prelude.{ℕ, ◌+◌, length, if◌then◌else◌}
+use Rattle.words.specs.Tests.{◌=?◌}
 use Rattle.words.specs.Runs.{step}
 use Rattle.words.specs.Rules.{answer, place}
 use Rattle.meaning.specs.Time.{every_gate_closed}

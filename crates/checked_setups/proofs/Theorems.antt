@@ -7,7 +7,8 @@ use Prim.Native.Nat.{ℕ, ◌+◌, ◌<◌}
 use native.Mathlib.Omega.{arith}
 use lib.ListN.{length, get_or}
 use borrow.Author.Tests.{eqb-true, eq-eqb, ne_eqb, lt-ltb, not-false}
-use Rattle.words.specs.Tests.{if◌then◌else◌, ◌=?◌, ◌<?◌}
+use Rattle.std.specs.Prelude.{if◌then◌else◌}
+use Rattle.words.specs.Tests.{◌=?◌, ◌<?◌}
 use Rattle.words.specs.Lists.{build}
 use Rattle.words.specs.Rules.{Rule, answer}
 use Rattle.laws.proofs.Cases.{by-eq}

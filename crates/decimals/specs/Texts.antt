@@ -1,7 +1,7 @@
 -- A text in a lent buffer: whether there is room for it, and what the buffer holds and where the next text goes afterwards.
-use Rattle.std.specs.Prelude.{Bool, List, ◌≡◌, ℕ, ◌+◌, length}
+use Rattle.std.specs.Prelude.{Bool, List, ◌≡◌, ℕ, ◌+◌, length, if◌then◌else◌}
 use Rattle.std.proofs.lemmas.List.Edits.{sets}
-use Rattle.words.specs.Tests.{if◌then◌else◌, ◌≤?◌}
+use Rattle.words.specs.Tests.{◌≤?◌}
 
 unfoldable pub has_room : ℕ → ℕ → ℕ → Bool
 has_room size at bytes = at + bytes ≤? size

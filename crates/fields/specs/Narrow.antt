@@ -1,6 +1,5 @@
 -- The limits of a call: a field has at most 32 bits, and a call takes at most 64 fields.
-use Rattle.std.specs.Prelude.{List, map, ◌++◌, ℕ, min, ℤ, length, take, drop}
-use Rattle.words.specs.Tests.{if◌then◌else◌}
+use Rattle.std.specs.Prelude.{List, map, ◌++◌, ℕ, min, ℤ, length, take, drop, if◌then◌else◌}
 use Rattle.words.specs.Fields.{read_all, write_all, fits_signed, bits_of}
 
 abbrev pub narrow : ℕ → ℕ

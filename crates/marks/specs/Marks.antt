@@ -1,6 +1,6 @@
 -- Document 01, "Matching, totals, marks": the mark of a period, and the marks of a whole day.
-use Rattle.std.specs.Prelude.{not, ◌||◌, List, ◌++◌, ℕ, suc, ◌+◌, ℤ, get_or}
-use Rattle.words.specs.Tests.{if◌then◌else◌, ◌<?◌, ◌=?◌}
+use Rattle.std.specs.Prelude.{not, ◌||◌, List, ◌++◌, ℕ, suc, ◌+◌, ℤ, get_or, if◌then◌else◌}
+use Rattle.words.specs.Tests.{◌<?◌, ◌=?◌}
 use Rattle.words.specs.Lists.{on_front}
 use Rattle.words.specs.Rules.{Rule, ◌when◌else◌, done, answer}
 use Rattle.meaning.specs.Time.{periods_on, has_day}

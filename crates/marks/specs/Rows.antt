@@ -1,6 +1,6 @@
 -- Document 01, "Matching, totals, marks": where the day's row lies in its side's own table, "the day's length long; it is empty exactly on a refusal".
-use Rattle.std.specs.Prelude.{List, ℕ, ℤ, take, drop}
-use Rattle.words.specs.Tests.{if◌then◌else◌, ◌=?◌}
+use Rattle.std.specs.Prelude.{List, ℕ, ℤ, take, drop, if◌then◌else◌}
+use Rattle.words.specs.Tests.{◌=?◌}
 use Rattle.words.specs.Rules.{answer}
 use Rattle.meaning.specs.Time.{periods_at, days, day_of}
 use Rattle.meaning.specs.Ledgers.{contracts, index, slot_of}

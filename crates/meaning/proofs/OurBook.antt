@@ -4,7 +4,8 @@ use mathlib.Core.Bool.{Bool, false}
 use mathlib.Core.List.{List, [], ◌∷◌}
 use Prim.Native.Nat.{ℕ}
 use lib.IntN.{pos}
-use Rattle.words.specs.Tests.{if◌then◌else◌, ◌=?◌}
+use Rattle.std.specs.Prelude.{if◌then◌else◌}
+use Rattle.words.specs.Tests.{◌=?◌}
 use Rattle.words.specs.Rules.{Rule, answer}
 use Rattle.meaning.specs.Time.{Time}
 use Rattle.meaning.specs.Authorisations.{Authorisation}

@@ -1,6 +1,6 @@
 -- Document 01, "Matching, totals, marks": a figure on a bar, seen from the asking account.
-use Rattle.std.specs.Prelude.{not, ◌&&◌, List, ◌++◌, ℕ, ℤ, Float}
-use Rattle.words.specs.Tests.{if◌then◌else◌, ◌=?◌}
+use Rattle.std.specs.Prelude.{not, ◌&&◌, List, ◌++◌, ℕ, ℤ, Float, if◌then◌else◌}
+use Rattle.words.specs.Tests.{◌=?◌}
 use Rattle.words.specs.Rules.{Rule, ◌when◌else◌, done, answer}
 use Rattle.meaning.specs.Time.{days, day_of, is_period}
 use Rattle.meaning.specs.Authorisations.{row_at, in_pair}

@@ -1,6 +1,6 @@
 -- What the history alone says of identifiers, of an account's total and of the bars: over the accepted calls and the setting, with no table.
-use Rattle.std.specs.Prelude.{Bool, false, List, [], ◌∷◌, ◌++◌, ℕ, ◌*◌, ℤ, pos, length}
-use Rattle.words.specs.Tests.{if◌then◌else◌, ◌=?◌}
+use Rattle.std.specs.Prelude.{Bool, false, List, [], ◌∷◌, ◌++◌, ℕ, ◌*◌, ℤ, pos, length, if◌then◌else◌}
+use Rattle.words.specs.Tests.{◌=?◌}
 use Rattle.words.specs.Below.{sum_belowℤ}
 use Rattle.words.specs.Lists.{any, once}
 use Rattle.meaning.specs.Time.{periods_on}

@@ -1,6 +1,6 @@
 -- Document 01, "The book": what a place holds, the places of a side's table, and the identifiers that are held.
-use Rattle.std.specs.Prelude.{Bool, false, not, List, ℕ, zero, suc, ◌+◌, ◌-◌, ◌*◌, ◌/◌, ◌%◌, ℤ, pos, negsuc, length, get_or, replicate}
-use Rattle.words.specs.Tests.{if◌then◌else◌, ◌<?◌, ◌≤?◌, sameℤ, within}
+use Rattle.std.specs.Prelude.{Bool, false, not, List, ℕ, zero, suc, ◌+◌, ◌-◌, ◌*◌, ◌/◌, ◌%◌, ℤ, pos, negsuc, length, get_or, replicate, if◌then◌else◌}
+use Rattle.words.specs.Tests.{◌<?◌, ◌≤?◌, sameℤ, within}
 use Rattle.words.specs.Lists.{find}
 use Rattle.meaning.specs.Authorisations.{Authorisation, no_row, row_at}
 

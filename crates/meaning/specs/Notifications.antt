@@ -1,6 +1,6 @@
 -- Document 01, "What a notification does" and "Answer numbers" (1 to 14): what can be wrong with a notification, its kind, and its answer.
-use Rattle.std.specs.Prelude.{Bool, not, ◌&&◌, ◌||◌, List, ◌++◌, ℕ, zero, suc, length, get_or}
-use Rattle.words.specs.Tests.{if◌then◌else◌, ◌<?◌, ◌≤?◌, ◌=?◌, between}
+use Rattle.std.specs.Prelude.{Bool, not, ◌&&◌, ◌||◌, List, ◌++◌, ℕ, zero, suc, length, get_or, if◌then◌else◌}
+use Rattle.words.specs.Tests.{◌<?◌, ◌≤?◌, ◌=?◌, between}
 use Rattle.words.specs.Below.{some_below, first_below}
 use Rattle.words.specs.Rules.{Rule, ◌when◌else◌, ◌when◌by◌else◌, done, answer, place}
 use Rattle.meaning.specs.Time.{periods_at, days, day_number, periods_on, is_open_at, next_day, current_day}

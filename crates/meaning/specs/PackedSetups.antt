@@ -1,6 +1,6 @@
 -- Document 01, "Packed messages": the layout of a setup, reading and writing.
-use Rattle.std.specs.Prelude.{not, ◌||◌, List, [], ◌∷◌, ◌++◌, ℕ, zero, suc, length, get_or, take, drop}
-use Rattle.words.specs.Tests.{if◌then◌else◌, ◌<?◌, ◌=?◌}
+use Rattle.std.specs.Prelude.{not, ◌||◌, List, [], ◌∷◌, ◌++◌, ℕ, zero, suc, length, get_or, take, drop, if◌then◌else◌}
+use Rattle.words.specs.Tests.{◌<?◌, ◌=?◌}
 use Rattle.words.specs.Rules.{Rule, ◌when◌else◌, done, answer}
 use Rattle.words.specs.Fields.{field_at, total, times, read_all, fit, bytes_for, padding}
 use Rattle.meaning.specs.Authorisations.{Authorisation}

@@ -1,6 +1,6 @@
 -- Document 01, "The sheet program": the lines that it prints for the bytes of its standard input.
-use Rattle.std.specs.Prelude.{List, [], ◌∷◌, ◌++◌, ℕ, suc, ◌%◌, ◌^◌, ℤ, pos, length, drop}
-use Rattle.words.specs.Tests.{if◌then◌else◌, ◌=?◌, sameℤ}
+use Rattle.std.specs.Prelude.{List, [], ◌∷◌, ◌++◌, ℕ, suc, ◌%◌, ◌^◌, ℤ, pos, length, drop, if◌then◌else◌}
+use Rattle.words.specs.Tests.{◌=?◌, sameℤ}
 use Rattle.words.specs.Lists.{build, join}
 use Rattle.words.specs.Fields.{field_at}
 use Rattle.meaning.specs.Time.{days, day_number}

@@ -1,6 +1,6 @@
 -- Document 01, "The sheet program": its lines, as ASCII bytes.
-use Rattle.std.specs.Prelude.{Bool, ◌||◌, List, [], ◌∷◌, ◌++◌, ℕ, ◌+◌, ◌%◌, ◌^◌, ℤ}
-use Rattle.words.specs.Tests.{if◌then◌else◌, ◌=?◌}
+use Rattle.std.specs.Prelude.{Bool, ◌||◌, List, [], ◌∷◌, ◌++◌, ℕ, ◌+◌, ◌%◌, ◌^◌, ℤ, if◌then◌else◌}
+use Rattle.words.specs.Tests.{◌=?◌}
 use Rattle.words.specs.Rules.{Outcome}
 use Rattle.meaning.specs.Ascii.{ascii}
 use Rattle.meaning.specs.Decimals.{decimal, signed}

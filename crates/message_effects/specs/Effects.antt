@@ -1,6 +1,6 @@
 -- What an accepted message makes of the places of one slot, on one side.
-use Rattle.std.specs.Prelude.{Bool, ◌&&◌, List, ◌≡◌, ℕ, ◌<◌, ℤ, length}
-use Rattle.words.specs.Tests.{if◌then◌else◌, ◌<?◌, ◌≤?◌, ◌=?◌}
+use Rattle.std.specs.Prelude.{Bool, ◌&&◌, List, ◌≡◌, ℕ, ◌<◌, ℤ, length, if◌then◌else◌}
+use Rattle.words.specs.Tests.{◌<?◌, ◌≤?◌, ◌=?◌}
 use Rattle.meaning.specs.Time.{Time, periods_at, is_period_at, is_open_at, days, day_number}
 use Rattle.meaning.specs.Authorisations.{Authorisation, row_at, is_pair}
 use Rattle.meaning.specs.Ledgers.{contracts, the_mark, slot_at, day_at, period_at, originator_of, holds, Side}

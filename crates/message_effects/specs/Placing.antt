@@ -1,7 +1,7 @@
 -- A notification's volumes laid out for the days of a book (02, A1): a row of 50 places for each length that a day may have.
-use Rattle.std.specs.Prelude.{Bool, List, ◌≡◌, ℕ, suc, ◌+◌, ◌-◌, ◌≤◌, ℤ, pos, get_or, replicate}
+use Rattle.std.specs.Prelude.{Bool, List, ◌≡◌, ℕ, suc, ◌+◌, ◌-◌, ◌≤◌, ℤ, pos, get_or, replicate, if◌then◌else◌}
 use Rattle.std.proofs.lemmas.List.Edits.{sets}
-use Rattle.words.specs.Tests.{if◌then◌else◌, ◌=?◌}
+use Rattle.words.specs.Tests.{◌=?◌}
 use Rattle.words.specs.Below.{some_below}
 use Rattle.words.specs.Lists.{build}
 use Rattle.meaning.specs.Time.{Time, periods_at, days}

@@ -1,7 +1,7 @@
 -- The fields that the C viewer may ask for, by their numbers: 0 kind, 1 authorisation, 2 agent, 3 key, 4 originator, 5 reference, 6 first day,
 -- 7 last day, 8 count, 9 account, 10 other account, 100 + k the period of entry k, 200 + k its volume. "an unknown field is zero"
-use Rattle.std.specs.Prelude.{ℕ, ◌-◌, ℤ, pos, get_or}
-use Rattle.words.specs.Tests.{if◌then◌else◌, ◌<?◌, ◌=?◌}
+use Rattle.std.specs.Prelude.{ℕ, ◌-◌, ℤ, pos, get_or, if◌then◌else◌}
+use Rattle.words.specs.Tests.{◌<?◌, ◌=?◌}
 use Rattle.meaning.specs.PackedMessages.{Packed}
 use Rattle.messages.specs.Structs.{no_entry, message_for}
 use Rattle.messages.specs.declared.Notification.{Notification}

@@ -8,7 +8,8 @@ use native.Mathlib.Omega.{arith}
 use lib.Dec.{eqb}
 use lib.ListN.{length}
 use borrow.Author.Tests.{eq-eqb, ne_eqb, lt-ltb, le-ltb, eqb-true, not-false}
-use Rattle.words.specs.Tests.{if◌then◌else◌, ◌<?◌}
+use Rattle.std.specs.Prelude.{if◌then◌else◌}
+use Rattle.words.specs.Tests.{◌<?◌}
 use Rattle.words.specs.Rules.{answer}
 use Rattle.words.specs.Fields.{field_at, total, bytes_for, padding}
 use Rattle.laws.proofs.Cases.{by-eq, by-lt}

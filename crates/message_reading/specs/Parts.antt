@@ -1,6 +1,6 @@
 -- What the private functions of reading a message answer; the public promises do not cite these.
-use Rattle.std.specs.Prelude.{List, ℕ, ◌+◌, ◌*◌, get_or}
-use Rattle.words.specs.Tests.{if◌then◌else◌, ◌<?◌, ◌=?◌}
+use Rattle.std.specs.Prelude.{List, ℕ, ◌+◌, ◌*◌, get_or, if◌then◌else◌}
+use Rattle.words.specs.Tests.{◌<?◌, ◌=?◌}
 use Rattle.words.specs.Lists.{build}
 use Rattle.words.specs.Fields.{field_at, read_all, signed_of}
 use Rattle.meaning.specs.PackedMessages.{notification_layout, nullification_layout, kind_in}

@@ -1,8 +1,8 @@
 // Reading: empty 19, kind three 20, short of the 12 or 4 bytes 19, more than fifty entries 21, short of the whole 19, a padding bit 22.
 #![tactic(auto)]
 
-ghost use Rattle.std.specs.Prelude.{◌≡◌, not, ℕ, ◌+◌, ◌-◌, ◌*◌, ◌/◌, ◌≤◌, ◌<◌, eqb, length};
-ghost use Rattle.words.specs.Tests.{if◌then◌else◌, ◌<?◌, ◌=?◌};
+ghost use Rattle.std.specs.Prelude.{◌≡◌, not, ℕ, ◌+◌, ◌-◌, ◌*◌, ◌/◌, ◌≤◌, ◌<◌, eqb, length, if◌then◌else◌};
+ghost use Rattle.words.specs.Tests.{◌<?◌, ◌=?◌};
 ghost use Rattle.words.specs.Rules.{answer};
 ghost use Rattle.words.specs.Fields.{total, bytes_for, field_at};
 ghost use Rattle.meaning.specs.PackedMessages.{kind_in, count_in, layout_for, layout_in, reading_rules, read_message};

@@ -1,6 +1,6 @@
 -- What the private functions of writing answer and leave; the public promises do not cite these.
-use Rattle.std.specs.Prelude.{Bool, true, false, ◌&&◌, List, [], ◌∷◌, ℕ, zero, suc, ◌+◌, ◌*◌, min, get_or}
-use Rattle.words.specs.Tests.{if◌then◌else◌, ◌<?◌, ◌≤?◌, ◌=?◌}
+use Rattle.std.specs.Prelude.{Bool, true, false, ◌&&◌, List, [], ◌∷◌, ℕ, zero, suc, ◌+◌, ◌*◌, min, get_or, if◌then◌else◌}
+use Rattle.words.specs.Tests.{◌<?◌, ◌≤?◌, ◌=?◌}
 use Rattle.words.specs.Below.{every_below}
 use Rattle.words.specs.Fields.{set_field, total, write_all, padding, fits_signed}
 use Rattle.meaning.specs.PackedMessages.{notification_layout, nullification_layout, entry_layout, layout_for}

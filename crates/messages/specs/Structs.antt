@@ -1,6 +1,6 @@
 -- The structs of `messages` and what they hold: each struct as meaning has it, and each thing of meaning as a struct, with zero in what it lacks.
-use Rattle.std.specs.Prelude.{List, ℕ, ◌+◌, ◌-◌, pos, length, get_or, replicate}
-use Rattle.words.specs.Tests.{if◌then◌else◌, ◌<?◌, ◌=?◌}
+use Rattle.std.specs.Prelude.{List, ℕ, ◌+◌, ◌-◌, pos, length, get_or, replicate, if◌then◌else◌}
+use Rattle.words.specs.Tests.{◌<?◌, ◌=?◌}
 use Rattle.words.specs.Lists.{build}
 use Rattle.meaning.specs.Ledgers.{contracts, identifier_of, originator_of, reference_of}
 use Rattle.meaning.specs.Messages as Meaning

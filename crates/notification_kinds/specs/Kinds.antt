@@ -1,6 +1,6 @@
 -- What the search for a notification's kind asks of a book and its lent tables, and what its parts answer.
-use Rattle.std.specs.Prelude.{Bool, ◌&&◌, ◌||◌, List, ◌≡◌, ℕ, suc, ◌+◌, ◌*◌, ◌≤◌, ◌<◌, ℤ, length, get_or}
-use Rattle.words.specs.Tests.{if◌then◌else◌, ◌≤?◌, ◌=?◌, between}
+use Rattle.std.specs.Prelude.{Bool, ◌&&◌, ◌||◌, List, ◌≡◌, ℕ, suc, ◌+◌, ◌*◌, ◌≤◌, ◌<◌, ℤ, length, get_or, if◌then◌else◌}
+use Rattle.words.specs.Tests.{◌≤?◌, ◌=?◌, between}
 use Rattle.meaning.specs.Time.{Time, periods_at, day_number}
 use Rattle.meaning.specs.Ledgers.{contracts, the_mark, stands, index, places}
 use Rattle.meaning.specs.Messages.{Notification}

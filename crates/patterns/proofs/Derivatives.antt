@@ -4,7 +4,8 @@ use mathlib.Core.Bool.{Bool, true, false, ◌&&◌, ◌||◌}
 use mathlib.Core.List.{List, [], ◌∷◌, ◌++◌}
 use Prim.Native.Nat.{ℕ}
 use lib.ListN.{length}
-use Rattle.words.specs.Tests.{if◌then◌else◌, ◌≤?◌}
+use Rattle.std.specs.Prelude.{if◌then◌else◌}
+use Rattle.words.specs.Tests.{◌≤?◌}
 use Rattle.patterns.specs.Patterns.{Range, ◌to◌, Pattern, never, empty, one, ◌·◌, ◌∣◌, many, is_one_of}
 
 -- the empty string matches

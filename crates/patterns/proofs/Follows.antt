@@ -6,7 +6,8 @@ use mathlib.Core.Path.{◌≡◌, refl, sym, ap, ◌∙◌, subst}
 use Prim.Native.Nat.{ℕ}
 use lib.ListN.{length}
 use Rattle.words.specs.Lists.{join}
-use Rattle.words.specs.Tests.{if◌then◌else◌, ◌≤?◌}
+use Rattle.std.specs.Prelude.{if◌then◌else◌}
+use Rattle.words.specs.Tests.{◌≤?◌}
 use Rattle.laws.proofs.Cases.{on, and_left, and_right}
 use Rattle.patterns.specs.Patterns.{Range, Pattern, never, empty, one, ◌·◌, ◌∣◌, many, is_one_of, Each, Matches}
 use Rattle.patterns.proofs.Derivatives.{nullable, lowest, possible, example, after, either, derive, derives}

@@ -1,6 +1,6 @@
 -- The parts that totals and figures are proved by: what a place counts, a sum as it is answered, and what is above or below zero.
-use Rattle.std.specs.Prelude.{Bool, true, List, ◌≡◌, ℕ, ◌+◌, ◌≤◌, ◌<◌, ℤ, pos, nat_abs, ◌-ℤ◌, length, get_or}
-use Rattle.words.specs.Tests.{if◌then◌else◌, within}
+use Rattle.std.specs.Prelude.{Bool, true, List, ◌≡◌, ℕ, ◌+◌, ◌≤◌, ◌<◌, ℤ, pos, nat_abs, ◌-ℤ◌, length, get_or, if◌then◌else◌}
+use Rattle.words.specs.Tests.{within}
 use Rattle.words.specs.Below.{sum_belowℤ}
 use Rattle.meaning.specs.Time.{days}
 use Rattle.meaning.specs.Authorisations.{Authorisation}

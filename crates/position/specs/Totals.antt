@@ -1,6 +1,6 @@
 -- What the questions of totals and figures give: meaning's answers as structs, and a whole day of totals at once.
-use Rattle.std.specs.Prelude.{List, ◌++◌, ℕ, suc, ℤ, length}
-use Rattle.words.specs.Tests.{if◌then◌else◌, ◌<?◌, ◌=?◌}
+use Rattle.std.specs.Prelude.{List, ◌++◌, ℕ, suc, ℤ, length, if◌then◌else◌}
+use Rattle.words.specs.Tests.{◌<?◌, ◌=?◌}
 use Rattle.words.specs.Lists.{on_front}
 use Rattle.words.specs.Rules.{Rule, ◌when◌else◌, done, answer}
 use Rattle.meaning.specs.Time.{periods_on}

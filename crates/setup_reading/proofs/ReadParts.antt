@@ -9,7 +9,8 @@ use native.Mathlib.Omega.{arith}
 use lib.ListN.{length, get_or, get_or-eq_default}
 use lib.Seq.{drop_at, take_at}
 use borrow.Author.Tests.{leb-true, lt-ltb, le-ltb, ne_eqb, not-false}
-use Rattle.words.specs.Tests.{if◌then◌else◌, ◌<?◌, ◌≤?◌, between}
+use Rattle.std.specs.Prelude.{if◌then◌else◌}
+use Rattle.words.specs.Tests.{◌<?◌, ◌≤?◌, between}
 use Rattle.words.specs.Lists.{build}
 use Rattle.words.specs.Rules.{answer}
 use Rattle.words.specs.Fields.{bytes_for, field_at, total, times, read_all}

@@ -1,6 +1,6 @@
 -- What the parts of reading a setup answer; the promises of the entries do not cite these.
-use Rattle.std.specs.Prelude.{List, ℕ, ◌+◌, ◌*◌, get_or}
-use Rattle.words.specs.Tests.{if◌then◌else◌, ◌<?◌}
+use Rattle.std.specs.Prelude.{List, ℕ, ◌+◌, ◌*◌, get_or, if◌then◌else◌}
+use Rattle.words.specs.Tests.{◌<?◌}
 use Rattle.words.specs.Lists.{build}
 use Rattle.words.specs.Rules.{answer}
 use Rattle.words.specs.Fields.{field_at, total, read_all}

@@ -1,6 +1,6 @@
 -- What writing answers, as a struct, and a setup as it reads back.
-use Rattle.std.specs.Prelude.{ℕ, get_or}
-use Rattle.words.specs.Tests.{if◌then◌else◌, ◌<?◌}
+use Rattle.std.specs.Prelude.{ℕ, get_or, if◌then◌else◌}
+use Rattle.words.specs.Tests.{◌<?◌}
 use Rattle.words.specs.Lists.{build}
 use Rattle.meaning.specs.PackedMessages.{Written}
 use Rattle.setups.specs.Structs.{no_authorisation}

@@ -1,6 +1,6 @@
 -- What the private functions of writing a setup leave in the buffer; the public promises do not cite these.
-use Rattle.std.specs.Prelude.{List, [], ◌∷◌, ℕ, zero, suc, ◌+◌, ◌*◌, get_or}
-use Rattle.words.specs.Tests.{if◌then◌else◌, ◌<?◌}
+use Rattle.std.specs.Prelude.{List, [], ◌∷◌, ℕ, zero, suc, ◌+◌, ◌*◌, get_or, if◌then◌else◌}
+use Rattle.words.specs.Tests.{◌<?◌}
 use Rattle.words.specs.Fields.{set_field, total, write_all, padding}
 use Rattle.meaning.specs.PackedSetups.{head_layout, row_layout, setup_layout_for}
 use Rattle.setups.specs.Structs.{no_authorisation}

@@ -13,7 +13,8 @@ use denote.Laws.{Is}
 use denote.Struct.Declared.{row}
 use denote.Struct.Laws.{owed, vals}
 use borrow.Author.Tests.{lt-ltb, le-ltb, ne_eqb}
-use Rattle.words.specs.Tests.{if◌then◌else◌, ◌<?◌}
+use Rattle.std.specs.Prelude.{if◌then◌else◌}
+use Rattle.words.specs.Tests.{◌<?◌}
 use Rattle.laws.proofs.Cases.{by-lt}
 use Rattle.laws.proofs.Builds.{length-build}
 use Rattle.setups.specs.Structs.{no_authorisation, rows_of, codes_of}

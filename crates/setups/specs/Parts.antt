@@ -1,6 +1,6 @@
 -- What `code_refusal` and `amendment_refusal` answer.
-use Rattle.std.specs.Prelude.{ℕ}
-use Rattle.words.specs.Tests.{if◌then◌else◌, ◌<?◌}
+use Rattle.std.specs.Prelude.{ℕ, if◌then◌else◌}
+use Rattle.words.specs.Tests.{◌<?◌}
 
 -- three codes, and three types, pass; the fourth is refused by its number
 abbrev pub code_refusal : ℕ → ℕ

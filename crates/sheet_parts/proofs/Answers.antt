@@ -2,7 +2,8 @@
 use Rattle.std.proofs.Common.{◌≡◌, ℕ, zero, suc, ◌-◌, ◌≤◌, List, [], ◌∷◌, ◌++◌, map, length, take, drop, sym, refl, ap, ◌∙◌, ap₂, zero-add, arith}
 use lib.ListN.{length-map, get_or-append}
 use lib.Seq.{sets, sets-eq, take-append-le, length-sets}
-use Rattle.words.specs.Tests.{if◌then◌else◌, ◌=?◌}
+use Rattle.std.specs.Prelude.{if◌then◌else◌}
+use Rattle.words.specs.Tests.{◌=?◌}
 use Rattle.words.specs.Rules.{Outcome}
 use Rattle.laws.proofs.Cases.{on, by-eq}
 use Rattle.meaning.specs.Ledgers.{contracts}

@@ -1,6 +1,6 @@
 -- What the parts of the sheet program give: numbers beside the lines that they write.
-use Rattle.std.specs.Prelude.{ℕ, suc, ◌*◌, ◌/◌, ◌%◌, Bool, List, [], length, take, drop, ℤ, pos, slice_index_or}
-use Rattle.words.specs.Tests.{if◌then◌else◌, ◌<?◌}
+use Rattle.std.specs.Prelude.{ℕ, suc, ◌*◌, ◌/◌, ◌%◌, Bool, List, [], length, take, drop, ℤ, pos, slice_index_or, if◌then◌else◌}
+use Rattle.words.specs.Tests.{◌<?◌}
 use Rattle.words.specs.Lists.{build, join}
 use Rattle.meaning.specs.Time.{days, day_number}
 use Rattle.meaning.specs.Ledgers.{contracts}

@@ -1,6 +1,6 @@
 -- How the sheet program goes through its input: the first bytes, then turns over the parts in which the rest comes.
-use Rattle.std.specs.Prelude.{Bool, true, false, not, ◌&&◌, ◌||◌, List, [], ◌∷◌, ◌++◌, ℕ, ◌+◌, ◌-◌, ◌%◌, ◌^◌, length, get_or, take, drop}
-use Rattle.words.specs.Tests.{if◌then◌else◌, ◌<?◌, ◌≤?◌, ◌=?◌}
+use Rattle.std.specs.Prelude.{Bool, true, false, not, ◌&&◌, ◌||◌, List, [], ◌∷◌, ◌++◌, ℕ, ◌+◌, ◌-◌, ◌%◌, ◌^◌, length, get_or, take, drop, if◌then◌else◌}
+use Rattle.words.specs.Tests.{◌<?◌, ◌≤?◌, ◌=?◌}
 use Rattle.words.specs.Rules.{Outcome}
 use Rattle.meaning.specs.Ledgers.{contracts}
 use Rattle.meaning.specs.Books.{Book, Setup, opened_book}

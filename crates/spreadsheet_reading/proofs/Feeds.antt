@@ -7,7 +7,8 @@ use native.Mathlib.Nat.{add-zero}
 use lib.ListN.{length, length-append}
 use borrow.Author.Tests.{eqb-true}
 use Rattle.words.specs.Lists.{any, keep}
-use Rattle.words.specs.Tests.{if◌then◌else◌, ◌=?◌}
+use Rattle.std.specs.Prelude.{if◌then◌else◌}
+use Rattle.words.specs.Tests.{◌=?◌}
 use Rattle.laws.proofs.Cases.{on, and-true, and-false}
 use Rattle.laws.proofs.Lists.{any_snoc, keep_snoc}
 use Rattle.spreadsheets.specs.Entries.{before, behind, is_digit, with_digit, value_from, value, decimals, kwh_of, entry_of}

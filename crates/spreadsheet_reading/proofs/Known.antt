@@ -10,7 +10,8 @@ use lib.ListN.{length, take, drop, get_or, length-append}
 use lib.Seq.{take-suc}
 use borrow.Author.Tests.{eq-eqb, ne_eqb, le-leb}
 use Rattle.words.specs.Lists.{every}
-use Rattle.words.specs.Tests.{if◌then◌else◌, ◌=?◌}
+use Rattle.std.specs.Prelude.{if◌then◌else◌}
+use Rattle.words.specs.Tests.{◌=?◌}
 use Rattle.laws.proofs.Cases.{by-eq, or_left, both}
 use Rattle.laws.proofs.Lists.{every_append}
 use Rattle.meaning.specs.Ledgers.{contracts}

@@ -9,7 +9,8 @@ use lib.ListN.{length, take, get_or}
 use lib.Seq.{take-suc}
 use borrow.Author.Tests.{ne_eqb}
 use Rattle.words.specs.Lists.{join}
-use Rattle.words.specs.Tests.{if◌then◌else◌, ◌=?◌}
+use Rattle.std.specs.Prelude.{if◌then◌else◌}
+use Rattle.words.specs.Tests.{◌=?◌}
 use Rattle.laws.proofs.Cases.{on}
 use Rattle.patterns.specs.Patterns.{Pattern, Matches}
 use Rattle.spreadsheets.specs.Languages.{number_file}

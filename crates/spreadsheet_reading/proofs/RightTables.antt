@@ -7,7 +7,8 @@ use lib.ListN.{length, get_or}
 use borrow.Author.Tests.{leb-true, ltb-true, ne_eqb, eq-eqb, le-leb, lt-leb}
 use Rattle.words.specs.Below.{every_below}
 use Rattle.words.specs.Lists.{join}
-use Rattle.words.specs.Tests.{if◌then◌else◌, ◌<?◌, ◌≤?◌, ◌=?◌, between}
+use Rattle.std.specs.Prelude.{if◌then◌else◌}
+use Rattle.words.specs.Tests.{◌<?◌, ◌≤?◌, ◌=?◌, between}
 use Rattle.laws.proofs.Cases.{on, and_left, and_right, not-true}
 use Rattle.laws.proofs.Below.{every-at}
 use Rattle.laws.proofs.Lists.{every_at-at}

@@ -8,7 +8,8 @@ use lib.ListN.{get_or}
 use borrow.Author.Tests.{leb-true, le-leb}
 use Rattle.words.specs.Below.{every_below}
 use Rattle.words.specs.Lists.{every_from, every_at, join}
-use Rattle.words.specs.Tests.{if◌then◌else◌, ◌≤?◌, ◌=?◌}
+use Rattle.std.specs.Prelude.{if◌then◌else◌}
+use Rattle.words.specs.Tests.{◌≤?◌, ◌=?◌}
 use Rattle.laws.proofs.Cases.{and_left, and_right}
 use Rattle.laws.proofs.Below.{every-at}
 use Rattle.laws.proofs.Lists.{every_at-at}

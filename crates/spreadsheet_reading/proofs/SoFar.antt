@@ -8,7 +8,8 @@ use lib.ListN.{length, take, get_or, set, length-set, length-map}
 use lib.Seq.{get_or-set_same, get_or-set_other}
 use borrow.Author.Tests.{lt-ltb, le-ltb}
 use Rattle.words.specs.Lists.{build}
-use Rattle.words.specs.Tests.{if◌then◌else◌, ◌<?◌, ◌=?◌}
+use Rattle.std.specs.Prelude.{if◌then◌else◌}
+use Rattle.words.specs.Tests.{◌<?◌, ◌=?◌}
 use Rattle.laws.proofs.Builds.{is-build, length-build, get_or-build}
 use Rattle.laws.proofs.Cases.{on, by-lt, by-eq, or_right}
 use Rattle.laws.proofs.Lists.{get_or-snoc, get_or-snoc-other}

@@ -5,7 +5,8 @@ use Prim.Native.Nat.{ℕ, suc, ◌-◌}
 use lib.ListN.{get_or}
 use Rattle.words.specs.Below.{every_below}
 use Rattle.words.specs.Lists.{any, every_from, every_at, join}
-use Rattle.words.specs.Tests.{if◌then◌else◌, ◌<?◌, ◌≤?◌, ◌=?◌, between}
+use Rattle.std.specs.Prelude.{if◌then◌else◌}
+use Rattle.words.specs.Tests.{◌<?◌, ◌≤?◌, ◌=?◌, between}
 use Rattle.patterns.specs.Patterns.{Pattern, never, empty, one, ◌·◌, ◌∣◌, many, is_one_of}
 use Rattle.patterns.proofs.Derivatives.{nullable, possible, example, is_never, after, either, derive, derives}
 use Rattle.patterns.proofs.Same.{same}

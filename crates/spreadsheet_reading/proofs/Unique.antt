@@ -2,7 +2,8 @@
 use mathlib.Core.List.{List, []}
 use mathlib.Core.Path.{◌≡◌, sym, ◌∙◌}
 use Prim.Native.Nat.{ℕ}
-use Rattle.words.specs.Tests.{if◌then◌else◌, ◌=?◌}
+use Rattle.std.specs.Prelude.{if◌then◌else◌}
+use Rattle.words.specs.Tests.{◌=?◌}
 use Rattle.laws.proofs.Promises.{OneResult}
 use Rattle.spreadsheets.specs.Entries.{entries}
 use Rattle.spreadsheets.specs.Structs.{spreadsheet_for}

@@ -10,7 +10,8 @@ use lib.Seq.{take_all, drop-cons}
 use borrow.Author.Tests.{eqb-true, eqb-false, eq-eqb, leb-true, leb-false}
 use Rattle.words.specs.Lists.{every}
 use Rattle.words.specs.Rules.{Outcome}
-use Rattle.words.specs.Tests.{if◌then◌else◌, ◌=?◌}
+use Rattle.std.specs.Prelude.{if◌then◌else◌}
+use Rattle.words.specs.Tests.{◌=?◌}
 use Rattle.laws.proofs.Bits.{Bytes}
 use Rattle.laws.proofs.Cases.{on, and_left, and_right, both}
 use Rattle.spreadsheets.specs.Entries.{entries}

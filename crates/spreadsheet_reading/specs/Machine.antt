@@ -1,8 +1,8 @@
 -- The reader's tables. Nothing here is to be believed: promises of private functions cite it, and it is proved to follow the languages (proofs/TableTests.antt).
-use Rattle.std.specs.Prelude.{Bool, ◌&&◌, List, [] as []ᴸ, ◌∷◌ as ◌∷ᴸ◌, ◌++◌, ℕ, ◌+◌, ◌-◌, ◌*◌, get_or, drop}
+use Rattle.std.specs.Prelude.{Bool, ◌&&◌, List, [] as []ᴸ, ◌∷◌ as ◌∷ᴸ◌, ◌++◌, ℕ, ◌+◌, ◌-◌, ◌*◌, get_or, drop, if◌then◌else◌}
 use Rattle.words.specs.Lists.{join}
 use Rattle.words.specs.Rules.{Outcome}
-use Rattle.words.specs.Tests.{if◌then◌else◌, ◌≤?◌, ◌=?◌}
+use Rattle.words.specs.Tests.{◌≤?◌, ◌=?◌}
 use Rattle.meaning.specs.Ascii.{ascii}
 use Rattle.spreadsheets.specs.Entries.{before}
 

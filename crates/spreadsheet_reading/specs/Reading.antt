@@ -1,6 +1,6 @@
 -- What reading gives: the answer and its place, and the entries of a valid file; with a refusal none.
-use Rattle.std.specs.Prelude.{List, [], ◌≡◌, ℕ}
-use Rattle.words.specs.Tests.{if◌then◌else◌, ◌=?◌}
+use Rattle.std.specs.Prelude.{List, [], ◌≡◌, ℕ, if◌then◌else◌}
+use Rattle.words.specs.Tests.{◌=?◌}
 use Rattle.spreadsheets.specs.Entries.{entries}
 use Rattle.spreadsheets.specs.Refusals.{Judged}
 use Rattle.spreadsheets.specs.Structs.{spreadsheet_for}

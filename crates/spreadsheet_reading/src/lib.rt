@@ -4,8 +4,8 @@
 mod table; // table.rt: the tables
 mod lines; // lines.rt: a line while its bytes come
 
-ghost use Rattle.std.specs.Prelude.{◌≡◌, ◌+◌, ◌≤◌};
-ghost use Rattle.words.specs.Tests.{if◌then◌else◌, ◌=?◌};
+ghost use Rattle.std.specs.Prelude.{◌≡◌, ◌+◌, ◌≤◌, if◌then◌else◌};
+ghost use Rattle.words.specs.Tests.{◌=?◌};
 ghost use Rattle.spreadsheets.specs.Structs.{no_spreadsheet};
 ghost use Rattle.spreadsheet_reading.specs.Machine.{column_table, turn_table, fresh_state};
 ghost use Rattle.spreadsheet_reading.specs.Reading.{Reading};

@@ -6,7 +6,8 @@ use Prim.Native.Nat.{ℕ, suc, ◌+◌, ◌-◌}
 use native.Mathlib.Nat.{zero-add}
 use native.Mathlib.Omega.{arith}
 use lib.ListN.{length, drop, length-drop, length-map}
-use Rattle.words.specs.Tests.{if◌then◌else◌, ◌=?◌}
+use Rattle.std.specs.Prelude.{if◌then◌else◌}
+use Rattle.words.specs.Tests.{◌=?◌}
 use Rattle.laws.proofs.Cases.{on}
 use Rattle.spreadsheets.specs.Entries.{as_line, lines_after, lines_of, entries, entry_of}
 use Rattle.spreadsheets.proofs.Lines.{current, current_from, is_nil, snoc-nil}

@@ -8,7 +8,8 @@ use native.Mathlib.Omega.{arith}
 use lib.IntN.{pos, negsuc}
 use Rattle.words.specs.Fields.{times}
 use Rattle.words.specs.Lists.{any, every, keep}
-use Rattle.words.specs.Tests.{if◌then◌else◌, ◌=?◌}
+use Rattle.std.specs.Prelude.{if◌then◌else◌}
+use Rattle.words.specs.Tests.{◌=?◌}
 use Rattle.meaning.specs.Ascii.{ascii}
 use Rattle.patterns.specs.Patterns.{is_one_of}
 use Rattle.patterns.proofs.Derivatives.{nullable, is_never, after, either, derive, derives}

@@ -9,7 +9,8 @@ use lib.IntN.{ℤ, pos, negsuc, neg_ℤ}
 use lib.ListN.{length}
 use borrow.Author.Tests.{eq-eqb, eqb-true}
 use Rattle.words.specs.Lists.{any, every, keep}
-use Rattle.words.specs.Tests.{if◌then◌else◌, ◌=?◌}
+use Rattle.std.specs.Prelude.{if◌then◌else◌}
+use Rattle.words.specs.Tests.{◌=?◌}
 use Rattle.laws.proofs.Cases.{on, and_left, and_right, both}
 use Rattle.laws.proofs.Lists.{any_append}
 use Rattle.meaning.specs.Ascii.{ascii}

@@ -1,7 +1,7 @@
 -- Document 02, A5: the entries that a file of numbers holds, one for each line after the header. Quotes and CR are no digits, and are passed over.
-use Rattle.std.specs.Prelude.{Bool, List, [], ◌∷◌, ◌++◌, map, ℕ, ◌+◌, ◌-◌, ◌*◌, ◌^◌, ℤ, pos, neg_ℤ, length, drop}
+use Rattle.std.specs.Prelude.{Bool, List, [], ◌∷◌, ◌++◌, map, ℕ, ◌+◌, ◌-◌, ◌*◌, ◌^◌, ℤ, pos, neg_ℤ, length, drop, if◌then◌else◌}
 use Rattle.words.specs.Lists.{any, keep}
-use Rattle.words.specs.Tests.{if◌then◌else◌, ◌=?◌, between}
+use Rattle.words.specs.Tests.{◌=?◌, between}
 use Rattle.meaning.specs.Ledgers.{contracts}
 use Rattle.meaning.specs.Messages.{Entry}
 

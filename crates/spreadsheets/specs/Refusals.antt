@@ -1,6 +1,6 @@
 -- Document 02, A5: "Refusals, at the first byte (the end counts as one) by which no valid file can begin so, the lower number first there".
-use Rattle.std.specs.Prelude.{List, ◌++◌, ℕ, suc, ◌≤◌, ◌<◌, length, take}
-use Rattle.words.specs.Tests.{if◌then◌else◌, ◌<?◌}
+use Rattle.std.specs.Prelude.{List, ◌++◌, ℕ, suc, ◌≤◌, ◌<◌, length, take, if◌then◌else◌}
+use Rattle.words.specs.Tests.{◌<?◌}
 use Rattle.patterns.specs.Patterns.{Matches}
 use Rattle.spreadsheets.specs.Languages.{csv_file, table_file, number_file}
 use Rattle.spreadsheets.specs.Entries.{entries}

@@ -1,9 +1,9 @@
 -- Document 02, A5: entries written out, "each line ended by LF, no needless leading zeros, minus only below zero, always three decimals".
-use Rattle.std.specs.Prelude.{Bool, not, ◌&&◌, ◌||◌, List, [], ◌∷◌, ◌++◌, map, ℕ, ◌/◌, ◌%◌, ℤ, pos, negsuc, nat_abs, length}
+use Rattle.std.specs.Prelude.{Bool, not, ◌&&◌, ◌||◌, List, [], ◌∷◌, ◌++◌, map, ℕ, ◌/◌, ◌%◌, ℤ, pos, negsuc, nat_abs, length, if◌then◌else◌}
 use Rattle.std.proofs.lemmas.List.Edits.{sets}
 use Rattle.words.specs.Lists.{every, join}
 use Rattle.words.specs.Rules.{Rule, ◌when◌else◌, done, answer}
-use Rattle.words.specs.Tests.{if◌then◌else◌, ◌<?◌, ◌≤?◌, ◌=?◌}
+use Rattle.words.specs.Tests.{◌<?◌, ◌≤?◌, ◌=?◌}
 use Rattle.meaning.specs.Ascii.{ascii}
 use Rattle.meaning.specs.Decimals.{digit, decimal}
 use Rattle.meaning.specs.Ledgers.{contracts}

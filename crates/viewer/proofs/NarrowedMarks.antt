@@ -5,7 +5,8 @@ use mathlib.Core.Path.{◌≡◌, ◌∙◌}
 use Prim.Native.Nat.{ℕ, ◌*◌, ◌≤◌, min}
 use lib.Ieee.{Float}
 use lib.ListN.{length}
-use Rattle.words.specs.Tests.{if◌then◌else◌, ◌<?◌, between}
+use Rattle.std.specs.Prelude.{if◌then◌else◌}
+use Rattle.words.specs.Tests.{◌<?◌, between}
 use Rattle.words.specs.Rules.{answer}
 use Rattle.laws.proofs.Cases.{on, and-false}
 use Rattle.meaning.specs.Time.{has_day, is_period}

@@ -6,7 +6,8 @@ use Prim.Native.Nat.{ℕ, min}
 use lib.Ieee.{Float}
 use lib.IntN.{ℤ}
 use lib.ListN.{length}
-use Rattle.words.specs.Tests.{if◌then◌else◌, ◌<?◌}
+use Rattle.std.specs.Prelude.{if◌then◌else◌}
+use Rattle.words.specs.Tests.{◌<?◌}
 use Rattle.words.specs.Rules.{answer}
 use Rattle.meaning.specs.Ledgers.{contracts, identifier_of}
 use Rattle.meaning.specs.Messages.{nullification}

@@ -1,6 +1,6 @@
 -- The identifier that a question in C names, whose numbers have 32 bits.
-use Rattle.std.specs.Prelude.{ℕ}
-use Rattle.words.specs.Tests.{if◌then◌else◌, ◌<?◌}
+use Rattle.std.specs.Prelude.{ℕ, if◌then◌else◌}
+use Rattle.words.specs.Tests.{◌<?◌}
 use Rattle.meaning.specs.Ledgers.{identifier_of}
 
 -- Document 01: "An identifier is an originating authorisation number with a reference code", and a reference has 16 bits. One of more bits is no

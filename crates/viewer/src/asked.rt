@@ -1,7 +1,7 @@
 // The numbers that a question in C names, narrowed for the functions that answer it. C would cut them without a word, so that account 257 were
 // account 1: the exports take 32 bits, and a number that is out of every book stays out of every book.
-ghost use Rattle.std.specs.Prelude.{◌≡◌, min};
-ghost use Rattle.words.specs.Tests.{if◌then◌else◌, ◌<?◌};
+ghost use Rattle.std.specs.Prelude.{◌≡◌, min, if◌then◌else◌};
+ghost use Rattle.words.specs.Tests.{◌<?◌};
 
 // No book knows it: authorisations are numbered from 0 to 63.
 const NO_ORIGINATOR: u8 = 255;

@@ -2,7 +2,8 @@
 use mathlib.Core.List.{List}
 use mathlib.Core.Path.{◌≡◌}
 use Prim.Native.Nat.{ℕ, ◌-◌, ◌≤◌}
-use Rattle.words.specs.Tests.{if◌then◌else◌, ◌<?◌}
+use Rattle.std.specs.Prelude.{if◌then◌else◌}
+use Rattle.words.specs.Tests.{◌<?◌}
 use Rattle.laws.proofs.Builds.{filled}
 use Rattle.setups.specs.declared.Authorisation.{Authorisation}
 use Rattle.setups.specs.Structs.{no_authorisation}

@@ -1,7 +1,8 @@
 -- The loop fills the eight places: with the code where there is a day, and with nothing past the days.
 use mathlib.Core.Path.{◌≡◌}
 use Prim.Native.Nat.{ℕ, ◌+◌, ◌-◌, ◌≤◌}
-use Rattle.words.specs.Tests.{if◌then◌else◌, ◌<?◌}
+use Rattle.std.specs.Prelude.{if◌then◌else◌}
+use Rattle.words.specs.Tests.{◌<?◌}
 use Rattle.laws.proofs.Builds.{filled}
 use Rattle.calendar.specs.Calendar.{code_of}
 use Rattle.calendar.proofs.proposals.codes_from.Given as goal
