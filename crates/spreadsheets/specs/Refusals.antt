@@ -1,5 +1,5 @@
 -- Document 02, A5: "Refusals, at the first byte (the end counts as one) by which no valid file can begin so, the lower number first there".
-use Rattle.std.specs.Prelude.{List, ◌++◌, ℕ, suc, ◌≤◌, ◌<◌, length, take, if◌then◌else◌}
+use Rattle.std.specs.Prelude.{List, ◌++◌, ℕ, suc, ◌≤◌, ◌<◌, length, take, cond}
 use Rattle.words.specs.Tests.{◌<?◌}
 use Rattle.patterns.specs.Patterns.{Matches}
 use Rattle.spreadsheets.specs.Languages.{csv_file, table_file, number_file}
@@ -28,7 +28,7 @@ Begins l u = (rest : List ℕ) × File l (u ++ rest)
 
 -- with the byte at this place it still can; at the end, which counts as a byte, it is one
 abbrev pub Goes : Language → List ℕ → ℕ → Type 0
-Goes l s place = if place <? length s then Begins l (take (suc place) s) else File l s
+Goes l s place = cond (place <? length s) (Begins l (take (suc place) s)) (File l s)
 
 -- The bytes are refused at this place by this language: up to there a valid file can begin so, and with the byte there none can; nor can a file of this
 -- language, while of every language with a lower number one still can.
