@@ -14,7 +14,6 @@ use Rattle.meaning.specs.Books.{Book}
 use Rattle.meaning.specs.Calls.{Call, gate, message, accepted, act}
 use Rattle.meaning.specs.History.{event, after}
 use Rattle.meaning.specs.PackedMessages.{Packed, read_message}
-use Rattle.meaning.specs.PackedMessages as Packed
 use Rattle.meaning.specs.PackedCalls.{calls_of, calls_in}
 use Rattle.meaning.proofs.PackedCalls.{after-append}
 

@@ -7,7 +7,6 @@ use lib.IntN.{ℤ, pos, neg_ℤ}
 use lib.ListN.{replicate}
 use Rattle.words.specs.Tests.{◌=?◌}
 use Rattle.meaning.specs.Messages.{notification, nullification}
-use Rattle.meaning.specs.PackedMessages as Packed
 use Rattle.meaning.specs.PackedMessages.{Packed, Reading, Written, values_of, read_message, write_message}
 use Rattle.meaning.proofs.Stories.{◌/₁◌, entry, letter, alike}
 

@@ -6,7 +6,7 @@ use mathlib.Core.Path.{◌≡◌, refl, sym, ap, ap₂, ◌∙◌}
 use Prim.Native.Nat.{ℕ, zero, suc, ◌≤◌, ◌<◌, min}
 use native.Mathlib.Omega.{arith}
 use lib.IntN.{pos}
-use lib.ListN.{length, get_or, take, drop, length-map, get_or-eq_default}
+use lib.ListN.{length, get_or, take, drop, get_or-eq_default}
 use borrow.Author.Tests.{ne_eqb, lt-leb}
 use denote.Laws.{Is}
 use denote.Struct.Declared.{row}

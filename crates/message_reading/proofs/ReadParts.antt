@@ -1,7 +1,7 @@
 -- The message that is read part by part is the one that meaning makes of the fields' values.
 use mathlib.Core.List.{List, [], ◌∷◌, ◌++◌}
 use mathlib.Core.Path.{◌≡◌, sym, ap, ◌∙◌}
-use Prim.Native.Nat.{ℕ, ◌+◌, ◌-◌, ◌*◌, ◌<◌}
+use Prim.Native.Nat.{ℕ, ◌+◌, ◌*◌, ◌<◌}
 use native.Mathlib.Omega.{arith}
 use lib.ListN.{get_or, get_or-eq_default}
 use borrow.Author.Tests.{lt-ltb, le-ltb}
@@ -19,7 +19,6 @@ use Rattle.meaning.proofs.EntryValues.{entries-count, entry_at}
 use Rattle.meaning.proofs.MessageValues.{count-1, layout-1, layout-2, layout-other, originator-again, reference-again}
 use Rattle.messages.specs.Structs.{no_entry, no_entry_meant, entry_for, no_notification, no_nullification, notification_for, message_for}
 use Rattle.message_reading.specs.Parts.{entry_in, entries_in, notification_in, nullification_in, message_in}
-use Rattle.messages.specs.declared.Entry.{Entry}
 use Rattle.messages.specs.declared.Notification.{Notification}
 use Rattle.messages.specs.declared.Message.{Message}
 

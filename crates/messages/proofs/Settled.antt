@@ -16,7 +16,6 @@ use Rattle.meaning.specs.PackedMessages.{Packed, gate, message, other_kind, entr
 use Rattle.meaning.proofs.MessageValues as Values
 use Rattle.messages.specs.Structs as Structs
 use Rattle.messages.specs.Structs.{no_entry, no_entry_meant, entry_of, entry_for, notification_of, notification_for, message_of, message_for, settled_entries, settled_notification, settled}
-use Rattle.messages.specs.declared.Entry.{Entry}
 use Rattle.messages.specs.declared.Notification.{Notification}
 use Rattle.messages.specs.declared.Message.{Message}
 

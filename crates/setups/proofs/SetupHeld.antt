@@ -1,11 +1,11 @@
 -- What a setup struct holds: the lengths of its arrays, the ranges of its numbers, and how many codes and rows are its own.
 use mathlib.Core.Bool.{not}
-use mathlib.Core.List.{List, [], ◌∷◌, map}
+use mathlib.Core.List.{List, [], ◌∷◌}
 use mathlib.Core.Path.{◌≡◌}
 use Prim.Native.Nat.{ℕ, zero, suc, ◌<◌}
 use native.Mathlib.Omega.{arith}
 use lib.Dec.{eqb}
-use lib.ListN.{length, get_or, length-map}
+use lib.ListN.{length, get_or}
 use mir.Val.{Val}
 use denote.Array.{each}
 use denote.Shadow.{shadow}

@@ -64,7 +64,7 @@ fn print(streams: &mut Streams, out: &[u8], written: usize) {
     }
 }
 
-// Reads some bytes to the front of the buffer, and answers how many: none where the input has ended.
+// Reads some bytes to the front of the buffer, and answers how many: none where the input has ended, or nothing more is read.
 fn read_some(streams: &mut Streams, bytes: &mut [u8]) -> usize
     ensures { result ≤ length bytes.new }
 {

@@ -16,7 +16,7 @@ use Rattle.meaning.proofs.PackedSetupRules.{setup-reading-answer, setup-reading-
 use Rattle.meaning.proofs.SetupRules.{opens}
 use Rattle.setups.specs.Structs.{setup_of, setup_for}
 use Rattle.setup_reading.proofs.ReadParts.{struct_holds, few-codes, few-rows}
-use Rattle.book.specs.Answers.{opened, opened_packed, held_opened, side_opened}
+use Rattle.book.specs.Answers.{opened_packed, held_opened, side_opened}
 use Rattle.book.proofs.OpeningLaws.{opening_answer, opened-book}
 use Rattle.meaning.specs.SheetLines.{end_line}
 use Rattle.sheet_lines.specs.Places.{placed}

@@ -2,7 +2,7 @@
 use mathlib.Core.Bool.{Bool, true, false, true≢false}
 use mathlib.Core.List.{List, [], ◌∷◌, ◌++◌}
 use mathlib.Core.Path.{◌≡◌, refl, sym, ap}
-use Prim.Native.Nat.{ℕ, ◌+◌}
+use Prim.Native.Nat.{ℕ}
 use Rattle.words.specs.Tests.{if◌then◌else◌, ◌=?◌}
 use Rattle.laws.proofs.Cases.{on}
 use Rattle.spreadsheets.specs.Entries.{as_line, lines_after, lines_of}

@@ -1,6 +1,5 @@
 -- After k turns the sum of the first k days.
 use mathlib.Core.Path.{◌≡◌, refl, ◌∙◌}
-use Prim.Native.Nat.{◌-◌}
 use native.Mathlib.Omega.{arith}
 use Rattle.words.specs.Below.{sum_below}
 use Rattle.laws.proofs.Below.{sum_more}

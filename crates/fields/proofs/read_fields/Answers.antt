@@ -1,7 +1,7 @@
 -- After i turns the front holds the first i fields, and behind it stands what was there.
 use mathlib.Core.Path.{◌≡◌, sym, ap₂, ◌∙◌}
 use mathlib.Core.List.{map}
-use Prim.Native.Nat.{◌+◌, ◌-◌, ◌<◌}
+use Prim.Native.Nat.{◌+◌, ◌<◌}
 use native.Mathlib.Omega.{arith}
 use lib.ListN.{length, take, get_or, length-map, length-set, get_or-map}
 use Rattle.words.specs.Fields.{total, field_at}

@@ -1,7 +1,7 @@
 -- After d turns the flag says that the first d days of the slot are right.
 use mathlib.Core.Bool.{◌&&◌}
 use mathlib.Core.Path.{◌≡◌, sym, ap, ap₂, ◌∙◌}
-use Prim.Native.Nat.{ℕ, ◌-◌}
+use Prim.Native.Nat.{ℕ}
 use native.Mathlib.Omega.{arith}
 use Rattle.words.specs.Below.{every_below}
 use Rattle.laws.proofs.Below.{every-none, every_more}

@@ -1,7 +1,7 @@
 -- Invariant: the entries below k are made, and the others are still zero. Of another kind there are none, and the head is zero too.
 use mathlib.Core.List.{List}
 use mathlib.Core.Path.{◌≡◌, ◌∙◌}
-use Prim.Native.Nat.{ℕ, ◌-◌, min}
+use Prim.Native.Nat.{ℕ, min}
 use native.Mathlib.Omega.{arith}
 use borrow.Author.Tests.{ne_eqb}
 use Rattle.words.specs.Tests.{if◌then◌else◌, ◌=?◌}

@@ -1,5 +1,4 @@
 -- Nothing found yet: no slot before s overlaps, no day of s before d, no period of d before p.
-use mathlib.Core.Bool.{false}
 use mathlib.Core.Path.{refl, sym, ap, ◌∙◌}
 use Prim.Native.Nat.{ℕ, ◌-◌, ◌≤◌, ◌<◌}
 use native.Mathlib.Omega.{arith}

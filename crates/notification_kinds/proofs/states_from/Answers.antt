@@ -1,11 +1,9 @@
 -- Nothing found yet: nothing on a day before d, nor in a period of d before p.
-use mathlib.Core.Bool.{false}
 use mathlib.Core.List.{[]}
 use mathlib.Core.Path.{refl, sym, ◌∙◌}
-use Prim.Native.Nat.{◌-◌, ◌≤◌, ◌<◌}
+use Prim.Native.Nat.{◌≤◌, ◌<◌}
 use native.Mathlib.Omega.{arith}
 use Rattle.laws.proofs.Below.{some-none, some-hit}
-use Rattle.meaning.specs.Notifications.{states_at}
 use Rattle.messages.specs.Structs.{notification_of}
 use Rattle.book.specs.Structs.{book_of, time_in}
 use Rattle.notification_kinds.specs.Kinds.{periods_from, from_first}

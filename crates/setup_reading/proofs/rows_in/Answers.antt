@@ -1,7 +1,7 @@
 -- The loop fills the 64 places: with the row where there is one, and with nothing past the rows.
 use borrow.Author.Tests.{lt-ltb, le-ltb}
 use mathlib.Core.Path.{◌≡◌, ◌∙◌}
-use Prim.Native.Nat.{ℕ, ◌-◌}
+use Prim.Native.Nat.{ℕ}
 use native.Mathlib.Omega.{arith}
 use Rattle.laws.proofs.Builds.{filled_none, filled_more, filled-all}
 use Rattle.laws.proofs.Builds.{filled-kept}

@@ -1,5 +1,5 @@
 -- The numbers left, written from where the loop stands, make the whole.
-use Rattle.std.proofs.Common.{◌≡◌, ◌-◌, [], drop, refl, ◌∙◌, arith, drop_of_length-le}
+use Rattle.std.proofs.Common.{◌≡◌, [], drop, refl, ◌∙◌, arith, drop_of_length-le}
 use Rattle.sheet_lines.proofs.Texts.{fields-length, fields-more}
 use Rattle.sheet_lines.proofs.put_fields.Goals as goal
 

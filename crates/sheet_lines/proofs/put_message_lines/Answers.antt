@@ -1,5 +1,5 @@
 -- The lines of the outcomes left, placed from where the loop stands, make the whole.
-use Rattle.std.proofs.Common.{◌≡◌, ℕ, ◌-◌, ◌<◌, ltb, List, [], length, drop, refl, ◌∙◌, arith, drop_of_length-le, ltb-true}
+use Rattle.std.proofs.Common.{◌≡◌, ℕ, ◌<◌, ltb, List, [], length, drop, refl, ◌∙◌, arith, drop_of_length-le, ltb-true}
 use Rattle.laws.proofs.Cases.{and_left, and_right}
 use Rattle.meaning.specs.SheetLines.{message_lines}
 use Rattle.sheet_lines.specs.Outcomes.{outcomes_of}

@@ -1,5 +1,5 @@
 -- After k turns the first k bytes of the word are written.
-use Rattle.std.proofs.Common.{◌≡◌, ◌+◌, ◌-◌, length, sym, refl, ◌∙◌, arith, length-set, take_all}
+use Rattle.std.proofs.Common.{◌≡◌, ◌+◌, length, sym, refl, ◌∙◌, arith, length-set, take_all}
 use Rattle.laws.proofs.Stores.{sets_more}
 use Rattle.sheet_lines.proofs.put_word.Goals as goal
 

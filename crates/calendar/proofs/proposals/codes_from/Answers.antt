@@ -1,7 +1,7 @@
 -- The loop fills the eight places: with the code where there is a day, and with nothing past the days.
 use borrow.Author.Tests.{lt-ltb, le-ltb}
 use mathlib.Core.Path.{◌≡◌, ◌∙◌}
-use Prim.Native.Nat.{ℕ, ◌+◌, ◌-◌}
+use Prim.Native.Nat.{ℕ, ◌+◌}
 use native.Mathlib.Omega.{arith}
 use Rattle.laws.proofs.Builds.{filled_none, filled_more, filled-kept, filled-all}
 use Rattle.calendar.specs.Answers.{codes_from}

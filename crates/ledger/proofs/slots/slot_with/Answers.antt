@@ -1,6 +1,5 @@
 -- No slot before k has the entry.
 use mathlib.Core.Path.{sym}
-use Prim.Native.Nat.{◌-◌}
 use native.Mathlib.Omega.{arith}
 use Rattle.laws.proofs.Cases.{by-eq}
 use Rattle.laws.proofs.Lists.{find-is}

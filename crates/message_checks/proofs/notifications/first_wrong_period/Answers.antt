@@ -1,7 +1,6 @@
 -- No period that was passed is wrong, and `before` is the last of them; the first that is wrong ends the search, and so do 50 entries.
 use mathlib.Core.Bool.{true, false, not}
 use mathlib.Core.Path.{◌≡◌, ap, refl, ◌∙◌}
-use Prim.Native.Nat.{◌-◌}
 use native.Mathlib.Numerals.{add-one}
 use native.Mathlib.Omega.{arith}
 use Rattle.laws.proofs.Below.{some-none, some_more}

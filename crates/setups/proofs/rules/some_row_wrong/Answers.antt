@@ -1,7 +1,7 @@
 -- No row that was passed is wrong. Where the count is above 64, the 65th row is all zero, and that is wrong.
 use mathlib.Core.Bool.{true, false}
 use mathlib.Core.Path.{◌≡◌, sym, ◌∙◌}
-use Prim.Native.Nat.{ℕ, ◌-◌}
+use Prim.Native.Nat.{ℕ}
 use native.Mathlib.Omega.{arith}
 use lib.ListN.{length, get_or, get_or-eq_default}
 use Rattle.words.specs.Below.{some_below}

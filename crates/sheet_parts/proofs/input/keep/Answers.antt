@@ -1,5 +1,5 @@
 -- What was moved so far is the front of what is left. A byte is read before anything is written over it, since writing is never ahead of reading.
-use Rattle.std.proofs.Common.{◌≡◌, ℕ, ◌+◌, ◌-◌, ◌<◌, ◌≤◌, true, ltb, List, length, get_or, take, set, sym, refl, ap, ◌∙◌, arith, length-set, ltb-false, ltb-true, lt-ltb}
+use Rattle.std.proofs.Common.{◌≡◌, ℕ, ◌+◌, ◌<◌, ◌≤◌, true, ltb, List, length, get_or, take, set, sym, refl, ap, ◌∙◌, arith, length-set, ltb-false, ltb-true, lt-ltb}
 use lib.Seq.{sets, take-length}
 use Rattle.laws.proofs.Cases.{and_left, and_right}
 use Rattle.sheet_parts.specs.Parts.{kept_of}

@@ -1,5 +1,5 @@
 -- The lines of the totals so far stand in the buffer.
-use Rattle.std.proofs.Common.{◌≡◌, ◌+◌, ◌-◌, length, get_or, pos, refl, ap, ◌∙◌, add-one, arith, to_z-of_z, w64, to_z, of_z}
+use Rattle.std.proofs.Common.{◌≡◌, ◌+◌, length, get_or, pos, refl, ap, ◌∙◌, add-one, arith, to_z-of_z, w64, to_z, of_z}
 use Rattle.sheet_lines.specs.Places.{all_placed, place_after_all}
 use Rattle.meaning.specs.Sheet.{period_lines}
 use Rattle.sheet_parts.specs.Parts.{kwh_lines}

@@ -4,7 +4,7 @@ use Rattle.spreadsheet_reading.proofs.lines.line_after.Goals as goal
 
 pub returns-then-byte-eq10 : goal.returns-then-byte-eq10
 unfolding line_after
-returns-then-byte-eq10 c = rw c.if-byte-eq10.true c.blank_line.ensures
+returns-then-byte-eq10 c = rw c.if-byte-eq10.true cc
 
 pub returns : goal.returns
 unfolding line_after
