@@ -13,8 +13,6 @@ use Rattle.ledger_soundness.specs.Parts.{row_right, days_right}
 use Rattle.ledger_soundness.proofs.Tables.{day-length}
 use Rattle.ledger_soundness.proofs.days_right.Goals as goal
 
--- the places that the answers look back to, each found by its type
-
 pub loop-d-init : goal.loop-d-init
 loop-d-init c = (omega arith, sym (every-none _))
 

@@ -17,8 +17,6 @@ use Rattle.notification_kinds.proofs.KindLaws.{some-keep, some-upto, on_period, 
 use Rattle.notification_kinds.proofs.is_overlapped.Goals as goal
 use Rattle.notification_kinds.proofs.is_overlapped.Goals.{then-is_other+else-loop-d-test, else-is_other}
 
--- ---- the places that the answers look back to, each found by its type: the start, the sides, the loops over slots, days and periods
-
 pub search-init : goal.search-init
 search-init c = (refl, some-none _)
 

@@ -10,8 +10,6 @@ use Rattle.notification_kinds.specs.Kinds.{periods_from, from_first}
 use Rattle.notification_kinds.proofs.KindLaws.{some-keep, some-upto, from-miss, from-hit, place-states, from-few, place_inside}
 use Rattle.notification_kinds.proofs.states_from.Goals as goal
 
--- ---- the places that the answers look back to, each found by its type: the start, the sides, the loop over the days and over the periods
-
 pub search-init : goal.search-init
 search-init c = (refl, some-none _)
 

@@ -9,8 +9,6 @@ use Rattle.sheet_lines.proofs.Sequences.{message-placed, message-after}
 use Rattle.sheet_lines.proofs.put_message_lines.Goals as goal
 use Rattle.sheet_lines.proofs.put_message_lines.Goals.{At-loop-k, In-loop-k, Start}
 
--- the places that the answers look back to, each found by its type
-
 pub loop-k-init : goal.loop-k-init
 loop-k-init c = (refl, refl, refl)
 
