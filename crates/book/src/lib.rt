@@ -14,6 +14,15 @@ pub struct Book {
     pub closed: u16,
 }
 
+// A book beside its lent tables, as every question of it is asked.
+#[derive(Clone, Copy)]
+pub struct BookView<'a> {
+    pub book: Book,
+    pub held: &'a [u32],
+    pub side1: &'a [i32],
+    pub side2: &'a [i32],
+}
+
 // With a refusal the book is all zero.
 #[repr(C)]
 #[derive(Clone, Copy)]

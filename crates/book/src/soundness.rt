@@ -1,9 +1,9 @@
 // "A sound book" (1), the test that every call and every question makes first.
 ghost use Rattle.std.specs.Prelude.{◌≡◌};
 ghost use Rattle.meaning.specs.Soundness.{sound};
-ghost use Rattle.book.specs.Structs.{book_of};
+ghost use Rattle.book.specs.Structs.{book_of, book_seen};
 
-use crate::{Book, opening, state};
+use crate::{Book, BookView, opening, state};
 
 // "setup rules hold; gates closed do not exceed the periods; held identifiers differ and name known originators; each volume is in range or the
 // mark; unheld slots and places past a day's length hold the mark"
@@ -20,4 +20,13 @@ pub fn is_sound(b: Book, held: &[u32], side1: &[i32], side2: &[i32]) -> bool
         & ledger_soundness::held_right(held, s.authorisations as usize)
         & ledger_soundness::side_right(side1, held, c)
         & ledger_soundness::side_right(side2, held, c)
+}
+
+impl BookView<'_> {
+    // The same, asked of a view.
+    pub fn is_sound(self) -> bool
+        ensures { result ≡ sound (book_seen self.entry) }
+    {
+        is_sound(self.book, self.held, self.side1, self.side2)
+    }
 }

@@ -27,6 +27,13 @@ const VOLUME_HALF: i32 = VOLUMES_BELOW_ZERO as i32;
 
 const VOLUME_LEAST: i32 = -134217728;
 
+// What stands at the front of packed bytes: the value, and how many bytes it takes.
+#[derive(Clone, Copy)]
+pub struct AtFront<T> {
+    pub length: usize,
+    pub value: T,
+}
+
 // A width, at most 32.
 fn narrowed(width: u8) -> usize
     ensures { result ≡ narrow width }

@@ -2,6 +2,7 @@
 #![tactic(auto)]
 
 pub mod numbers; // numbers.rt: the answer numbers
+pub mod refusals; // refusals.rt: why a request is refused, and the number that C is given
 pub mod kinds; // kinds.rt: the numbers of kinds and types
 
 // "A book covers 1 to 8 consecutive settlement days"
