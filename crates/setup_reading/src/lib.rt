@@ -82,16 +82,7 @@ fn codes_in(bytes: &[u8], days: u8) -> [u8; limits::MOST_DAYS_WIDE]
 fn rows_in(bytes: &[u8], days: u8, count: u8) -> [Authorisation; limits::MOST_AUTHORISATIONS_WIDE]
     ensures { result ≡ rows_in bytes.now days count }
 {
-    let mut rows = [Authorisation {
-        agent1: 0,
-        agent2: 0,
-        account1: 0,
-        account2: 0,
-        key: 0,
-        first: 0,
-        last: 0,
-        amendment: 0,
-    }; limits::MOST_AUTHORISATIONS_WIDE];
+    let mut rows = [Authorisation::NONE; limits::MOST_AUTHORISATIONS_WIDE];
     let mut k: u8 = 0;
     while k < limits::MOST_AUTHORISATIONS {
         if k < count {
@@ -128,23 +119,7 @@ fn setup_in(bytes: &[u8]) -> Setup
 pub fn no_setup() -> Setup
     ensures { result ≡ no_setup_struct }
 {
-    Setup {
-        first: 0,
-        days: 0,
-        accounts: 0,
-        authorisations: 0,
-        codes: [0u8; limits::MOST_DAYS_WIDE],
-        rows: [Authorisation {
-            agent1: 0,
-            agent2: 0,
-            account1: 0,
-            account2: 0,
-            key: 0,
-            first: 0,
-            last: 0,
-            amendment: 0,
-        }; limits::MOST_AUTHORISATIONS_WIDE],
-    }
+    Setup::NONE
 }
 
 // 19, 17, 19, 17, 18: the number that refuses these bytes, which hold the setup `s`, before their padding is looked at, or 0.

@@ -19,6 +19,20 @@ pub struct Authorisation {
     pub amendment: u8,
 }
 
+impl Authorisation {
+    // Every field zero: what stands past the rows of a setup, and what a refusal gives.
+    pub const NONE: Authorisation = Authorisation {
+        agent1: 0,
+        agent2: 0,
+        account1: 0,
+        account2: 0,
+        key: 0,
+        first: 0,
+        last: 0,
+        amendment: 0,
+    };
+}
+
 // The first `days` codes (0, 1, 2 for 46, 48, 50 periods) and the first `authorisations` rows are its own; what follows them is no part of it.
 #[repr(C)]
 #[derive(Clone, Copy)]
@@ -29,4 +43,16 @@ pub struct Setup {
     pub authorisations: u8,
     pub codes: [u8; limits::MOST_DAYS_WIDE],
     pub rows: [Authorisation; limits::MOST_AUTHORISATIONS_WIDE],
+}
+
+impl Setup {
+    // Every field zero: what a refusal gives.
+    pub const NONE: Setup = Setup {
+        first: 0,
+        days: 0,
+        accounts: 0,
+        authorisations: 0,
+        codes: [0; limits::MOST_DAYS_WIDE],
+        rows: [Authorisation::NONE; limits::MOST_AUTHORISATIONS_WIDE],
+    };
 }
