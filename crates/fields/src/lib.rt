@@ -2,6 +2,7 @@
 // writes at most 64 fields. Past the end of the bytes a bit is 0, and writing one changes nothing, so no caller owes an index.
 #![tactic(auto)]
 
+pub mod whole_bits; // whole_bits.rt: how many bytes so many bits take
 mod whole_bytes; // whole_bytes.rt: one field, by whole bytes joined and cut
 
 ghost use Rattle.std.specs.Prelude.{◌≡◌, ◌+◌, ◌%◌, ◌<◌, ◌^◌, min};
