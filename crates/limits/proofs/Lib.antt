@@ -1,1 +1,2 @@
 pub mod AnswerNumbers
+pub mod Told
