@@ -3,10 +3,11 @@ use mathlib.Core.List.{List, ◌++◌, append_assoc}
 use mathlib.Core.Path.{◌≡◌, sym, ap, ◌∙◌}
 use Prim.Native.Nat.{ℕ, ◌+◌, ◌-◌, ◌≤◌, min}
 use native.Mathlib.Omega.{arith}
-use lib.ListN.{length, take, drop}
+use lib.ListN.{length, take, drop, replicate, length-replicate}
 use lib.Seq.{sets, sets-eq, drop-drop, take_all, length-take-le}
 use borrow.Rule.Slice.PartMut.{put_mid}
 use Rattle.laws.proofs.Cases.{by-lt}
+use Rattle.std.proofs.lemmas.List.{take-replicate}
 use Rattle.laws.proofs.Stores.{sets-out, sets-inside}
 
 module _ {A : Type 0} (l : List A) where
@@ -33,3 +34,8 @@ module _ {A : Type 0} (l : List A) where
       (λ m. sym (sets-inside l at vs n (omega arith)))
       (λ m. ap (sets l at) (take_all n vs m)))
       (λ h. sets-out l a (take n vs) (omega arith) ∙ sym (sets-out l at vs h))
+
+  -- and filled with one value
+  pub clipped-fill : (at a n k count : ℕ) (x : A) (ws : List A) → a ≡ min at (length l) → n ≡ min count (length l - a) → k ≡ n → ws ≡ replicate n x → put_mid a k l ws ≡ sets l at (replicate count x)
+  clipped-fill at a n k count x ws p q r e =
+      clipped-sets at a n k (replicate count x) ws p (rw length-replicate q) r (e ∙ sym (take-replicate n count x (omega arith)))
