@@ -13,6 +13,14 @@ pub struct Entry {
     pub volume: i32,
 }
 
+impl Entry {
+    // Both zero: what reads past the last entry.
+    pub const NONE: Entry = Entry {
+        period: 0,
+        volume: 0,
+    };
+}
+
 // `authorisation` is the number of the one that it is sent under; the identifier is originator and reference. Entries past `count` are no part of it.
 #[repr(C)]
 #[derive(Clone, Copy)]
@@ -49,9 +57,5 @@ pub struct Message {
 pub fn entries_inside(count: u8) -> u8
     ensures { result ≡ min count 50 }
 {
-    if count < limits::MOST_ENTRIES {
-        count
-    } else {
-        limits::MOST_ENTRIES
-    }
+    count.min(limits::MOST_ENTRIES)
 }
