@@ -1,2 +1,3 @@
 -- That no two outcomes meet one promise.
+pub mod EightBytes
 pub mod Unique

@@ -39,21 +39,14 @@ pub struct AtFront<T> {
 fn narrowed(width: u8) -> usize
     ensures { result ≡ narrow width }
 {
-    lesser(width as usize, WIDEST_FIELD)
-}
-
-// The lesser of two numbers.
-fn lesser(a: usize, b: usize) -> usize
-    ensures { result ≡ min a b }
-{
-    if a < b { a } else { b }
+    (width as usize).min(WIDEST_FIELD)
 }
 
 // How many fields a call takes of two lists, at most 64.
 fn fewest_of(a: usize, b: usize) -> usize
     ensures { result ≡ fewest a b }
 {
-    lesser(lesser(MOST_FIELDS, a), b)
+    MOST_FIELDS.min(a).min(b)
 }
 
 // The field of `width` bits, at most 32, from bit `at` on.
@@ -68,7 +61,7 @@ pub fn read_field(src: &[u8], at: u32, width: u8) -> u32
 pub fn read_long(src: &[u8], at: u32, width: u8) -> u64
     ensures { result ≡ field_at src.now at (min width 56) }
 {
-    let w = lesser(width as usize, LONGEST_FIELD);
+    let w = (width as usize).min(LONGEST_FIELD);
     whole_bytes::read_long(src, at as usize, w)
 }
 
@@ -86,12 +79,10 @@ pub fn read_fields(src: &[u8], at: u32, widths: &[u8], out: &mut [u32])
 {
     let n = fewest_of(widths.len(), out.len());
     let mut p = at as usize;
-    let mut i: usize = 0;
-    while i < n {
-        let w = narrowed(widths[i]);
-        out[i] = whole_bytes::read_bits(src, p, w);
+    for (k, width) in widths[..n].iter().enumerate() {
+        let w = narrowed(*width);
+        out[k] = whole_bytes::read_bits(src, p, w);
         p += w;
-        i += 1;
     }
 }
 
@@ -101,12 +92,10 @@ pub fn write_fields(dst: &mut [u8], at: u32, widths: &[u8], values: &[u32])
 {
     let n = fewest_of(widths.len(), values.len());
     let mut p = at as usize;
-    let mut i: usize = 0;
-    while i < n {
-        let w = narrowed(widths[i]);
-        whole_bytes::write_bits(dst, p, w, values[i]);
+    for (k, width) in widths[..n].iter().enumerate() {
+        let w = narrowed(*width);
+        whole_bytes::write_bits(dst, p, w, values[k]);
         p += w;
-        i += 1;
     }
 }
 
@@ -141,7 +130,8 @@ pub fn bits_of_volume(z: i32) -> u32
     ensures { result ≡ volume_bits z }
 {
     if volume_fits(z) {
-        return bits_of_fitting(z);
+        bits_of_fitting(z)
+    } else {
+        0
     }
-    0
 }
