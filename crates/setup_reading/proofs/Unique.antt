@@ -3,7 +3,7 @@ use mathlib.Core.Path.{sym, ◌∙◌}
 use Rattle.limits.proofs.AnswerNumbers.{same-answer}
 use Rattle.laws.proofs.Cases.{one-outcome}
 use Rattle.laws.proofs.Promises.{OneResult}
-use Rattle.setup_reading.proofs.ReadSeen.{same-read}
+use Rattle.setup_reading.proofs.Outcomes.{setup-read-tells}
 use Rattle.setup_reading.proofs.padding_set.Reads as padding-set
 use Rattle.setup_reading.proofs.content_in.Reads as content-in
 use Rattle.setup_reading.proofs.reading_refusal.Reads as reading-refusal
@@ -22,4 +22,4 @@ pub unique-reading-refusal : OneResult reading-refusal.Post
 unique-reading-refusal κs a r r' s s' p q = same-answer r r' (p ∙ sym q)
 
 pub unique-read-setup : OneResult read-setup.Post
-unique-read-setup κs a r r' s s' p q = same-read r r' (p ∙ sym q)
+unique-read-setup κs a r r' s s' p q = setup-read-tells r r' (p ∙ sym q)

@@ -1,4 +1,4 @@
--- What is read, as the struct that C sees.
+-- What is read, as the struct that C is given.
 use Rattle.std.specs.Prelude.{Result, Ok, Err}
 use Rattle.fields.specs.declared.AtFront.{AtFront}
 use Rattle.limits.specs.declared.refusals.Refusal.{Refusal}
@@ -12,7 +12,7 @@ use Rattle.setup_reading.specs.declared.SetupRead.{SetupRead}
 unfoldable pub setup_read : Reading Books.Setup → SetupRead
 setup_read r = record { answer = r.answer; length = r.length; setup = setup_for r.read }
 
--- No two outcomes are seen as one struct: ReadSeen.antt.
-abbrev pub setup_seen : Result (AtFront Setup) Refusal → SetupRead
-setup_seen (Ok front) = record { answer = 0; length = front.length; setup = front.value }
-setup_seen (Err refusal) = record { answer = number_of refusal; length = 0; setup = no_setup_struct }
+-- what C is given of an outcome: 0 beside the value, or the number beside zeros; no two outcomes give the same (proofs/Outcomes.antt)
+abbrev pub as_setup_read : Result (AtFront Setup) Refusal → SetupRead
+as_setup_read (Ok front) = record { answer = 0; length = front.length; setup = front.value }
+as_setup_read (Err refusal) = record { answer = number_of refusal; length = 0; setup = no_setup_struct }

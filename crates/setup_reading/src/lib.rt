@@ -6,7 +6,7 @@ ghost use Rattle.words.specs.Rules.{answer};
 ghost use Rattle.words.specs.Fields.{total, padding, field_at};
 ghost use Rattle.meaning.specs.PackedSetups.{setup_layout_for, content_rules, setup_reading_rules, read_setup};
 ghost use Rattle.limits.specs.Refusals.{answer_of};
-ghost use Rattle.setup_reading.specs.Structs.{setup_read, setup_seen};
+ghost use Rattle.setup_reading.specs.Structs.{setup_read, as_setup_read};
 ghost use Rattle.setup_reading.specs.Parts.{row_in, codes_in, rows_in, setup_struct_in};
 
 use fields::AtFront;
@@ -23,7 +23,7 @@ pub struct SetupRead {
 }
 
 impl From<Result<AtFront<Setup>, Refusal>> for SetupRead {
-    ghost from_gives = { λ outcome read. read ≡ setup_seen outcome };
+    ghost from_gives = { λ outcome read. read ≡ as_setup_read outcome };
 
     fn from(outcome: Result<AtFront<Setup>, Refusal>) -> SetupRead {
         match outcome {
@@ -188,7 +188,7 @@ pub fn read_setup(
     lent1: usize,
     lent2: usize,
 ) -> Result<AtFront<Setup>, Refusal>
-    ensures { setup_seen result ≡ setup_read (read_setup bytes.now slots lent1 lent2) }
+    ensures { as_setup_read result ≡ setup_read (read_setup bytes.now slots lent1 lent2) }
 {
     reading_refusal(bytes, slots, lent1, lent2)?;
     let setup = setup_in(bytes);

@@ -2,8 +2,7 @@
 use mathlib.Core.Path.{◌≡◌, refl, sym, ap, ◌∙◌}
 use Rattle.std.proofs.Common.{Err, rules}
 use Rattle.limits.proofs.AnswerNumbers.{never-done}
-use Rattle.limits.specs.Refusals.{answer_of}
-use Rattle.setup_reading.specs.Structs.{setup_seen}
+use Rattle.setup_reading.specs.Structs.{as_setup_read}
 use Rattle.setup_reading.proofs.ReadParts.{read_done, read-refused}
 use Rattle.setup_reading.proofs.read_setup.Goals as goal
 
@@ -12,7 +11,7 @@ returns-in_err-reading_refusal c =
     let a = c.args in
     let refusal = c.in_err-reading_refusal.field-0.0 in
     let given : c.from_residual.result ≡ Err refusal = search rules in
-    ap setup_seen given ∙ read-refused a.bytes.now a.slots a.lent1 a.lent2 c.in_err-reading_refusal.ensures (never-done refusal) refl
+    ap as_setup_read given ∙ read-refused a.bytes.now a.slots a.lent1 a.lent2 c.in_err-reading_refusal.ensures (never-done refusal) refl
 
 pub returns : goal.returns
 returns c =
