@@ -36,12 +36,36 @@ pub struct Notification {
     pub entries: [Entry; limits::MOST_ENTRIES_WIDE],
 }
 
+impl Notification {
+    // All of it zero: what a message of another kind has.
+    pub const NONE: Notification = Notification {
+        authorisation: 0,
+        agent: 0,
+        key: 0,
+        originator: 0,
+        reference: 0,
+        first: 0,
+        last: 0,
+        count: 0,
+        entries: [Entry::NONE; limits::MOST_ENTRIES_WIDE],
+    };
+}
+
 #[repr(C)]
 #[derive(Clone, Copy)]
 pub struct Nullification {
     pub account: u8,
     pub other: u8,
     pub first: u16,
+}
+
+impl Nullification {
+    // The same of a nullification.
+    pub const NONE: Nullification = Nullification {
+        account: 0,
+        other: 0,
+        first: 0,
+    };
 }
 
 // Kind 0 is a gate, 1 a notification, 2 a nullification. What a kind lacks is no part of it, and reads as zero.
@@ -51,6 +75,15 @@ pub struct Message {
     pub kind: u8,
     pub notification: Notification,
     pub nullification: Nullification,
+}
+
+impl Message {
+    // What a refusal gives.
+    pub const NONE: Message = Message {
+        kind: 0,
+        notification: Notification::NONE,
+        nullification: Nullification::NONE,
+    };
 }
 
 // How many of so many entries a notification has room for. Those past the array are of period 0, and give nothing.
