@@ -2,7 +2,7 @@
 use mathlib.Core.Bool.{true, false, ◌&&◌, true≢false}
 use mathlib.Core.Logic.{◌≢◌}
 use mathlib.Core.Path.{◌≡◌, refl, sym, ap, ◌∙◌}
-use Prim.Native.Nat.{ℕ, zero, suc, ◌-◌, ◌<◌}
+use Prim.Native.Nat.{ℕ, zero, suc, ◌-◌, ◌<◌, ◌≤◌}
 use native.Mathlib.Omega.{arith}
 use lib.Dec.{ltb}
 use lib.ListN.{length, get_or, get_or-eq_default}
@@ -46,15 +46,19 @@ module _ (s : Setup) (k : ℕ) where
   unfolding rows_of
   row_inside h = get_or-build s.authorisations (λ (j : ℕ). row_of (get_or s.rows j no_authorisation)) no_row k h
 
+  -- past the count
+  pub row_none : s.authorisations ≤ k → row_at (rows_in s) k ≡ no_row
+  unfolding rows_of
+  row_none h = get_or-build-past s.authorisations (λ (j : ℕ). row_of (get_or s.rows j no_authorisation)) no_row k h
+
   -- past the count, or past the array
   pub row-past : length s.rows ≡ 64 → ltb k s.authorisations && ltb k 64 ≡ false → row_at (rows_in s) k ≡ no_row
-  unfolding rows_of
   row-past l e =
       by-lt k s.authorisations
       (λ h. by-lt k 64
       (λ m. absurd (true≢false (sym (both (lt-ltb k s.authorisations h) (lt-ltb k 64 m)) ∙ e)))
       (λ m. row_inside h ∙ ap row_of (get_or-eq_default s.rows no_authorisation {n = k} (rw l m))))
-      (λ h. get_or-build-past s.authorisations (λ (j : ℕ). row_of (get_or s.rows j no_authorisation)) no_row k h)
+      row_none
 
 -- ---- the row of an entry, read where it lies
 
