@@ -1,5 +1,5 @@
 -- The array that a loop fills from the front only as far as there is something to fill it with: past that every place keeps what it began with.
-use mathlib.Core.Path.{◌≡◌, sym, ◌∙◌}
+use mathlib.Core.Path.{◌≡◌, sym}
 use Prim.Native.Nat.{ℕ, ◌≤◌, min}
 use native.Mathlib.Omega.{arith}
 use lib.Dec.{ltb}
