@@ -2,4 +2,5 @@
 pub mod WriteParts
 pub mod StructRanges
 pub mod EitherWay
+pub mod Tells
 pub mod Unique
