@@ -32,9 +32,3 @@ pub fn number_found(kind: Option<Kind>) -> u8
 pub const ONLY_REPLACEMENTS: u8 = 1;
 
 pub const ONLY_ADDITIONAL: u8 = 2;
-
-pub const INITIAL: u8 = 1;
-
-pub const REPLACEMENT: u8 = 2;
-
-pub const ADDITIONAL: u8 = 3;

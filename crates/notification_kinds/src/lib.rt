@@ -9,11 +9,12 @@ ghost use Rattle.meaning.specs.Ledgers.{index};
 ghost use Rattle.meaning.specs.Notifications.{is_replacement, is_other, overlaps, kind_of, kind_number};
 ghost use Rattle.messages.specs.Structs.{notification_of};
 ghost use Rattle.setups.specs.Structs.{no_authorisation, row_of};
-ghost use Rattle.book.specs.Structs.{time_in, rows_in, origin_place, setting_in, book_of};
+ghost use Rattle.book.specs.Structs.{time_in, rows_in, origin_place, setting_in, book_of, book_seen};
+ghost use Rattle.limits.specs.Kinds.{number_of_kind, number_found};
 ghost use Rattle.notification_kinds.specs.Kinds.{Fits, Inside, states_place, periods_from, periods_within, SlotInside, from_first, fits, kind_answer};
 
-use book::{Book, state};
-use limits::kinds;
+use book::{Book, BookView, state};
+use limits::kinds::Kind;
 use setups::authorisations;
 
 // A slot, by its entry, holds another identifier of the same account 1 and account 2.
@@ -60,11 +61,7 @@ fn first_open(b: Book, d: u8) -> u16
     ensures { result ≡ b.closed - gates_before (time_in b).codes d }
 {
     let c = state::clock_of(b);
-    let gates = clock::gates_before(c, d);
-    if c.closed < gates {
-        return 0;
-    }
-    c.closed - gates
+    c.closed.saturating_sub(clock::gates_before(c, d))
 }
 
 // The periods of a day that is not before `first`; none of a day before it.
@@ -91,101 +88,84 @@ fn periods_within(b: Book, first: u16, last: u16, d: u8) -> u16
 }
 
 // The search for the first other identifier that overlaps: by slots, days and periods, left at the first open period that both state.
-fn is_overlapped(
-    b: Book,
-    held: &[u32],
-    side1: &[i32],
-    side2: &[i32],
-    n: messages::Notification,
-    mine: setups::Authorisation,
-) -> bool
-    requires { Fits b held.now side1.now side2.now × (row_of mine ≡ row_at (rows_in b.setup) n.authorisation) }
-    ensures { result ≡ some_below (length held.now) (overlaps (book_of b held.now side1.now side2.now) (notification_of n)) }
+fn is_overlapped(view: BookView<'_>, n: messages::Notification, mine: setups::Authorisation) -> bool
+    requires { Fits view.book view.held.now view.side1.now view.side2.now × (row_of mine ≡ row_at (rows_in view.book.setup) n.authorisation) }
+    ensures { result ≡ some_below (length view.entry.held.now) (overlaps (book_seen view.entry) (notification_of n)) }
 {
     let w1 = authorisations::writes_side1(mine, n.agent);
     let w2 = authorisations::writes_side2(mine, n.agent);
-    let setup = b.setup;
-    let days = setup.days;
-    let mut found = false;
-    'search: for s in 0..held.len() {
-        let entry = held[s];
-        let row = setup.rows[state::origin_place(entry)];
-        if is_other(b, n, entry, row, mine) {
+    let b = view.book;
+    let days = b.setup.days;
+    for (s, entry) in view.held.iter().enumerate() {
+        let row = b.setup.rows[state::origin_place(*entry)];
+        if is_other(b, n, *entry, row, mine) {
             for d in 0..days {
                 let first = first_open(b, d);
                 let periods = periods_within(b, n.first, n.last, d);
                 for p in first..periods {
-                    if states_at(side1, side2, w1, w2, days, s, d, p) {
-                        found = true;
-                        break 'search;
+                    if states_at(view.side1, view.side2, w1, w2, days, s, d, p) {
+                        return true;
                     }
                 }
             }
         }
     }
-    found
+    false
 }
 
 // A slot states something on a side that is written, on the notification's first day or later.
 fn states_from(
-    b: Book,
-    side1: &[i32],
-    side2: &[i32],
+    view: BookView<'_>,
     n: messages::Notification,
     mine: setups::Authorisation,
     s: usize,
 ) -> bool
-    requires { SlotInside b side1.now side2.now s × (row_of mine ≡ row_at (rows_in b.setup) n.authorisation) }
-    ensures { result ≡ some_below b.setup.days (from_first (book_of b [] side1.now side2.now) (notification_of n) s) }
+    requires { SlotInside view.book view.side1.now view.side2.now s × (row_of mine ≡ row_at (rows_in view.book.setup) n.authorisation) }
+    ensures { result ≡ some_below view.entry.book.setup.days (from_first (book_of view.entry.book [] view.entry.side1.now view.entry.side2.now) (notification_of n) s) }
 {
     let w1 = authorisations::writes_side1(mine, n.agent);
     let w2 = authorisations::writes_side2(mine, n.agent);
-    let days = b.setup.days;
-    let mut found = false;
-    'search: for d in 0..days {
-        let periods = periods_from(b, n.first, d);
+    let days = view.book.setup.days;
+    for d in 0..days {
+        let periods = periods_from(view.book, n.first, d);
         for p in 0..periods {
-            if states_at(side1, side2, w1, w2, days, s, d, p) {
-                found = true;
-                break 'search;
+            if states_at(view.side1, view.side2, w1, w2, days, s, d, p) {
+                return true;
             }
         }
     }
-    found
+    false
 }
 
 // The identifier is held, and states something on the notification's first day or later.
 fn is_replacement(
-    b: Book,
-    held: &[u32],
-    side1: &[i32],
-    side2: &[i32],
+    view: BookView<'_>,
     n: messages::Notification,
     mine: setups::Authorisation,
 ) -> bool
-    requires { Fits b held.now side1.now side2.now × (row_of mine ≡ row_at (rows_in b.setup) n.authorisation) }
-    ensures { result ≡ is_replacement (book_of b held.now side1.now side2.now) (notification_of n) }
+    requires { Fits view.book view.held.now view.side1.now view.side2.now × (row_of mine ≡ row_at (rows_in view.book.setup) n.authorisation) }
+    ensures { result ≡ is_replacement (book_seen view.entry) (notification_of n) }
 {
-    let slot = ledger::slots::slot_of(held, n.originator, n.reference);
-    if held.len() <= slot {
+    let slot = ledger::slots::slot_of(view.held, n.originator, n.reference);
+    if view.held.len() <= slot {
         return false;
     }
-    states_from(b, side1, side2, n, mine, slot)
+    states_from(view, n, mine, slot)
 }
 
-// On tables that fit: the number of the kind.
-fn kind_in(b: Book, held: &[u32], side1: &[i32], side2: &[i32], n: messages::Notification) -> u8
-    requires { Fits b held.now side1.now side2.now }
-    ensures { result ≡ kind_number (kind_of (book_of b held.now side1.now side2.now) (notification_of n)) }
+// On tables that fit: the kind.
+fn kind_in(view: BookView<'_>, n: messages::Notification) -> Kind
+    requires { Fits view.book view.held.now view.side1.now view.side2.now }
+    ensures { number_of_kind result ≡ kind_number (kind_of (book_seen view.entry) (notification_of n)) }
 {
-    let mine = state::row_of(b, n.authorisation as u32);
-    if is_replacement(b, held, side1, side2, n, mine) {
-        return kinds::REPLACEMENT;
+    let mine = state::row_of(view.book, n.authorisation as u32);
+    if is_replacement(view, n, mine) {
+        return Kind::Replacement;
     }
-    if is_overlapped(b, held, side1, side2, n, mine) {
-        return kinds::ADDITIONAL;
+    if is_overlapped(view, n, mine) {
+        return Kind::Additional;
     }
-    kinds::INITIAL
+    Kind::Initial
 }
 
 // The tables have a place for each slot, day and period, and there are few.
@@ -203,12 +183,17 @@ fn tables_fit(b: Book, slots: usize, lent1: usize, lent2: usize) -> bool
     (lent1 == all) & (lent2 == all)
 }
 
-// The kind of a notification: 1 initial, 2 replacement, 3 additional; 0 where the tables do not fit the book.
-pub fn kind_of(b: Book, held: &[u32], side1: &[i32], side2: &[i32], n: messages::Notification) -> u8
-    ensures { result ≡ kind_answer b held.now side1.now side2.now (notification_of n) }
+// The kind of a notification; none where the tables do not fit the book.
+pub fn kind_of(view: BookView<'_>, n: messages::Notification) -> Option<Kind>
+    ensures { number_found result ≡ kind_answer view.entry.book view.entry.held.now view.entry.side1.now view.entry.side2.now (notification_of n) }
 {
-    if !tables_fit(b, held.len(), side1.len(), side2.len()) {
-        return 0;
+    if !tables_fit(
+        view.book,
+        view.held.len(),
+        view.side1.len(),
+        view.side2.len(),
+    ) {
+        return None;
     }
-    kind_in(b, held, side1, side2, n)
+    Some(kind_in(view, n))
 }

@@ -1,6 +1,6 @@
 -- Nothing found yet: nothing on a day before d, nor in a period of d before p.
 use mathlib.Core.List.{[]}
-use mathlib.Core.Path.{refl, sym, ◌∙◌}
+use mathlib.Core.Path.{sym, ◌∙◌}
 use Prim.Native.Nat.{◌≤◌, ◌<◌}
 use native.Mathlib.Omega.{arith}
 use Rattle.laws.proofs.Below.{some-none, some-hit}
@@ -10,50 +10,54 @@ use Rattle.notification_kinds.specs.Kinds.{periods_from, from_first}
 use Rattle.notification_kinds.proofs.KindLaws.{some-keep, some-upto, from-miss, from-hit, place-states, from-few, place_inside}
 use Rattle.notification_kinds.proofs.states_from.Goals as goal
 
-pub search-init : goal.search-init
-search-init c = (refl, some-none _)
+pub loop-d-init : goal.loop-d-init
+loop-d-init c = some-none _
 
 pub loop-p-init : goal.loop-p-init
 loop-p-init c =
-    (c.search.invariant.0, some-none _)
+    some-none _
 
 pub states_at-requires : goal.states_at-requires
 unfolding notification_of
 states_at-requires c =
     let a = c.args in
-    let d = c.search.d in
+    let v = a.view in
+    let d = c.loop-d.d in
     let p = c.loop-p.p in
-    let few : p < 50 = omega (arith, c.loop-p-test.true, c.periods_from-periods.ensures, from-few (time_in a.b) a.n.first d) in
-    place_inside a.b a.side1.now a.side2.now a.s d p c.requires.0 c.search-test.true few
+    let few : p < 50 = omega (arith, c.loop-p-test.true, c.periods_from-periods.ensures, from-few (time_in v.book) a.n.first d) in
+    place_inside v.book v.side1.now v.side2.now a.s d p c.requires.0 c.loop-d-test.true few
 
 pub loop-p-preserved : goal.loop-p-preserved
 loop-p-preserved c =
     let a = c.args in
-    let stated = place-states a.b a.n a.mine c.requires.1 c.writes_side1-w1.ensures c.writes_side2-w2.ensures [] a.side1.now a.side2.now a.s c.search.d c.loop-p.p c.states_at.ensures in
-    (c.loop-p.invariant.0, some-keep _ _ c.loop-p.invariant.1 (stated ∙ c.if-states_at.false))
+    let v = a.view in
+    let stated = place-states v.book a.n a.mine c.requires.1 c.writes_side1-w1.ensures c.writes_side2-w2.ensures [] v.side1.now v.side2.now a.s c.loop-d.d c.loop-p.p c.states_at.ensures in
+    some-keep _ _ c.loop-p.invariant (stated ∙ c.if-states_at.false)
 
-pub search-preserved : goal.search-preserved
+pub loop-d-preserved : goal.loop-d-preserved
 unfolding notification_of
-search-preserved c =
+loop-d-preserved c =
     let a = c.args in
-    let m = book_of a.b [] a.side1.now a.side2.now in
+    let v = a.view in
+    let m = book_of v.book [] v.side1.now v.side2.now in
     let n = notification_of a.n in
-    let d = c.search.d in
+    let d = c.loop-d.d in
     let p = c.loop-p.p in
-    let l : periods_from (time_in a.b) n.first d ≤ p = rw (← c.periods_from-periods.ensures) c.loop-p-test.false in
-    (c.loop-p.invariant.0, some-keep _ _ c.search.invariant.1 (from-miss m n a.s d p c.loop-p.invariant.1 l))
+    let l : periods_from (time_in v.book) n.first d ≤ p = rw (← c.periods_from-periods.ensures) c.loop-p-test.false in
+    some-keep _ _ c.loop-d.invariant (from-miss m n a.s d p c.loop-p.invariant l)
 
-pub returns-after-search : goal.returns-after-search
-returns-after-search c = c.search.invariant.0 ∙ sym (some-upto _ _ _ c.search.invariant.1 c.search-test.false)
+pub returns : goal.returns
+returns c = sym (some-upto _ _ _ c.loop-d.invariant c.loop-d-test.false)
 
 pub returns-then-states_at : goal.returns-then-states_at
 unfolding notification_of
 returns-then-states_at c =
     let a = c.args in
-    let m = book_of a.b [] a.side1.now a.side2.now in
+    let v = a.view in
+    let m = book_of v.book [] v.side1.now v.side2.now in
     let n = notification_of a.n in
-    let d = c.search.d in
+    let d = c.loop-d.d in
     let p = c.loop-p.p in
-    let stated = place-states a.b a.n a.mine c.requires.1 c.writes_side1-w1.ensures c.writes_side2-w2.ensures [] a.side1.now a.side2.now a.s d p c.states_at.ensures in
-    let l : p < periods_from (time_in a.b) n.first d = rw (← c.periods_from-periods.ensures) c.loop-p-test.true in
-    sym (some-hit a.b.setup.days (from_first m n a.s) d c.search-test.true (from-hit m n a.s d p l (stated ∙ c.if-states_at.true)))
+    let stated = place-states v.book a.n a.mine c.requires.1 c.writes_side1-w1.ensures c.writes_side2-w2.ensures [] v.side1.now v.side2.now a.s d p c.states_at.ensures in
+    let l : p < periods_from (time_in v.book) n.first d = rw (← c.periods_from-periods.ensures) c.loop-p-test.true in
+    sym (some-hit v.book.setup.days (from_first m n a.s) d c.loop-d-test.true (from-hit m n a.s d p l (stated ∙ c.if-states_at.true)))

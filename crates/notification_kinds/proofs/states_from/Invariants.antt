@@ -2,7 +2,7 @@
 use mathlib.Core.Bool.{false}
 use mathlib.Core.List.{[]}
 use mathlib.Core.Path.{◌≡◌}
-use Prim.Native.Nat.{ℕ, suc, ◌-◌}
+use Prim.Native.Nat.{ℕ, suc}
 use Rattle.words.specs.Below.{some_below}
 use Rattle.meaning.specs.Notifications.{states_at}
 use Rattle.messages.specs.Structs.{notification_of}
@@ -12,13 +12,7 @@ use Rattle.notification_kinds.proofs.states_from.Given as goal
 
 abbrev pub invariant-loop-p : goal.invariant-loop-p
 invariant-loop-p l =
-    (l.found ≡ false) × (some_below l.p (λ (q : ℕ). states_at (book_of l.b [] l.side1 l.side2) (notification_of l.n) l.s l.d (suc q)) ≡ false)
+    some_below l.p (λ (q : ℕ). states_at (book_of l.view.book [] l.view.side1.now l.view.side2.now) (notification_of l.n) l.s l.d (suc q)) ≡ false
 
-abbrev pub decreases-loop-p : goal.decreases-loop-p
-decreases-loop-p l = l.periods - l.p
-
-abbrev pub invariant-search : goal.invariant-search
-invariant-search l = (l.found ≡ false) × (some_below l.d (from_first (book_of l.b [] l.side1 l.side2) (notification_of l.n) l.s) ≡ false)
-
-abbrev pub decreases-search : goal.decreases-search
-decreases-search l = l.days - l.d
+abbrev pub invariant-loop-d : goal.invariant-loop-d
+invariant-loop-d l = some_below l.d (from_first (book_of l.view.book [] l.view.side1.now l.view.side2.now) (notification_of l.n) l.s) ≡ false
