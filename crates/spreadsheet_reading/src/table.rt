@@ -1,9 +1,10 @@
 // The reader's tables: what may follow each beginning of a file. That every place of them is right is computed (`every-turn`, `every-state`,
-// `every-column`, proofs/TableTests.antt).
+// `every-column`, proofs/TableTests.antt). States are numbers, and what comes next a letter, since those theorems are about the tables' bytes.
 ghost use Rattle.std.specs.Prelude.{◌≡◌, ◌≤◌, ◌<◌};
+ghost use Rattle.limits.specs.Refusals.{number_of};
 ghost use Rattle.spreadsheet_reading.specs.Machine.{column_table, turn_table, states, end, column_of, turn_at, refusal_in};
 
-use limits::numbers;
+use limits::refusals::Refusal;
 
 // The column of each byte, sixteen to a line:
 // a to i  the letters of the header: p e r i o d m w h
@@ -146,13 +147,13 @@ pub(crate) fn turn_at_end(turns: &[u8], state: u8) -> u8
     turn_at(turns, state, END)
 }
 
-// The number by which it refuses.
-pub(crate) fn refusal_in(turn: u8) -> u8
-    ensures { result ≡ refusal_in turn }
+// Why it refuses.
+pub(crate) fn refusal_in(turn: u8) -> Refusal
+    ensures { number_of result ≡ refusal_in turn }
 {
     match turn {
-        b'9' => numbers::NOT_CSV,
-        b'0' => numbers::NOT_TWO_FIELDS,
-        _ => numbers::NOT_A_NUMBER,
+        b'9' => Refusal::NotCsv,
+        b'0' => Refusal::NotTwoFields,
+        _ => Refusal::NotANumber,
     }
 }
