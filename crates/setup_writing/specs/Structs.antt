@@ -1,5 +1,7 @@
--- What writing answers, as a struct, and a setup as it reads back.
-use Rattle.std.specs.Prelude.{ℕ, get_or, if◌then◌else◌}
+-- What writing answers, as the struct that C is given, and a setup as it reads back.
+use Rattle.std.specs.Prelude.{ℕ, get_or, if◌then◌else◌, Result, Ok, Err}
+use Rattle.limits.specs.declared.refusals.Refusal.{Refusal}
+use Rattle.limits.specs.Refusals.{number_of}
 use Rattle.words.specs.Tests.{◌<?◌}
 use Rattle.words.specs.Lists.{build}
 use Rattle.meaning.specs.PackedMessages.{Written}
@@ -9,6 +11,11 @@ use Rattle.setup_writing.specs.declared.SetupWritten.{SetupWritten}
 
 unfoldable pub setup_written : Written → SetupWritten
 setup_written w = record { answer = w.answer; length = w.length }
+
+-- what C is given of an outcome: 0 beside the length, or the number beside 0; no two outcomes give the same (proofs/Outcomes.antt)
+abbrev pub as_setup_written : Result ℕ Refusal → SetupWritten
+as_setup_written (Ok length) = record { answer = 0; length = length }
+as_setup_written (Err refusal) = record { answer = number_of refusal; length = 0 }
 
 -- a setup as it reads back: codes past its days, and rows past its authorisations, are zero
 
