@@ -69,31 +69,31 @@ fn count_in(bytes: &[u8]) -> u8
     0
 }
 
-// How many bits the message has, as far as its head tells: none with more than fifty entries. Where the head of a notification is cut off, those of the
-// head, which the bytes are short of.
-fn bits_in(bytes: &[u8], kind: u8) -> u32
+// How many bits the message has, as far as its head tells; with more than fifty entries it is refused. Where the head of a notification is cut off,
+// those of the head, which the bytes are short of.
+fn bits_in(bytes: &[u8], kind: u8) -> Result<u32, Refusal>
     requires { kind ≡ kind_in bytes.now }
     ensures { let s = bytes.now in
-        result ≡ (if length s <? bytes_for (layout_for (kind_in s) 0) then total (layout_for (kind_in s) 0) else if 50 <? count_in s then 0 else total (layout_in s)) }
+        let bits = if length s <? bytes_for (layout_for (kind_in s) 0) then total (layout_for (kind_in s) 0) else if 50 <? count_in s then 0 else total (layout_in s) in
+        (answer_of result ≡ (if bits =? 0 then 21 else 0)) × (result_unwrap_or result 0 ≡ bits) }
 {
     if (kind == 1) & (layouts::bytes_for(1, 0) <= bytes.len()) {
         let count = count_in(bytes);
         if limits::MOST_ENTRIES < count {
-            return 0;
+            return Err(Refusal::TooManyEntries);
         }
-        return layouts::bits_for(1, count);
+        return Ok(layouts::bits_for(1, count));
     }
-    layouts::bits_for(kind, 0)
+    Ok(layouts::bits_for(kind, 0))
 }
 
 // Some bit is 1 behind the first so many, in the last byte that they reach into. It is there, so one look without a test for the end.
 fn padding_bit(bytes: &[u8], bits: u32) -> bool
-    requires { (0 < bits) × (bits < 4096) × (bits ≤ length bytes.now * 8) }
+    requires { (0 < bits) × (bits ≤ length bytes.now * 8) }
     ensures { result ≡ not (eqb (field_at bytes.now bits ((bits + 7) / 8 * 8 - bits)) 0) }
 {
-    let whole = (bits + 7) / 8;
-    let last = bytes[(whole - 1) as usize] as u32;
-    (last & ((1u32 << (whole * 8 - bits)) - 1)) != 0
+    let last = bytes[whole_bits::bytes_of(bits) - 1];
+    (last & ((1 << whole_bits::padding_of(bits)) - 1)) != 0
 }
 
 // The bytes that the message at the front takes, by each rule of reading in its order. What is short of its head has no count that could be too large,
@@ -109,10 +109,7 @@ fn size_in(bytes: &[u8]) -> Result<usize, Refusal>
     if kind == 3 {
         return Err(Refusal::KindThree);
     }
-    let bits = bits_in(bytes, kind);
-    if bits == 0 {
-        return Err(Refusal::TooManyEntries);
-    }
+    let bits = bits_in(bytes, kind)?;
     let taken = whole_bits::bytes_of(bits);
     if bytes.len() < taken {
         return Err(Refusal::BytesEndTooSoon);
