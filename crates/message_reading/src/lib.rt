@@ -59,16 +59,6 @@ pub fn kind_in(bytes: &[u8]) -> u8
     fields::read_field(bytes, 0, 2) as u8
 }
 
-// The number of entries, none but in a notification.
-fn count_in(bytes: &[u8]) -> u8
-    ensures { result ≡ count_in bytes.now }
-{
-    if kind_in(bytes) == 1 {
-        return fields::read_field(bytes, layouts::COUNT_AT, 6) as u8;
-    }
-    0
-}
-
 // How many bits the message has, as far as its head tells; with more than fifty entries it is refused. Where the head of a notification is cut off,
 // those of the head, which the bytes are short of.
 fn bits_in(bytes: &[u8], kind: u8) -> Result<u32, Refusal>
@@ -78,7 +68,7 @@ fn bits_in(bytes: &[u8], kind: u8) -> Result<u32, Refusal>
         (answer_of result ≡ (if bits =? 0 then 21 else 0)) × (result_unwrap_or result 0 ≡ bits) }
 {
     if (kind == 1) & (layouts::bytes_for(1, 0) <= bytes.len()) {
-        let count = count_in(bytes);
+        let count = fields::read_field(bytes, layouts::COUNT_AT, 6) as u8;
         if limits::MOST_ENTRIES < count {
             return Err(Refusal::TooManyEntries);
         }

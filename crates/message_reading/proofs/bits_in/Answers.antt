@@ -11,12 +11,13 @@ use borrow.Author.Tests.{eq-eqb, ne_eqb, eqb-true, lt-ltb, le-ltb, le-leb, leb-t
 use Rattle.std.specs.Prelude.{if◌then◌else◌}
 use Rattle.words.specs.Tests.{◌=?◌}
 use Rattle.words.specs.Fields.{bytes_for, total}
+use Rattle.laws.proofs.Fields.{field_lt}
 use Rattle.laws.proofs.Cases.{by-eq, by-lt, and_left, and_right}
 use Rattle.meaning.specs.PackedMessages.{kind_in, count_in, layout_for, layout_in}
-use Rattle.meaning.proofs.MessageValues.{count-other}
+use Rattle.meaning.proofs.MessageValues.{count-1, count-other}
 use Rattle.message_reading.proofs.ReadRefusals.{bits_told, begins}
 use Rattle.message_reading.proofs.bits_in.Goals as goal
-use Rattle.message_reading.proofs.bits_in.Goals.{Then-kind-bytes_for}
+use Rattle.message_reading.proofs.bits_in.Goals.{After-read_field-count, Then-kind-bytes_for}
 
 module _ (s : List ℕ) where
   abbrev head_bytes : ℕ
@@ -55,6 +56,14 @@ has-head c =
     let inside = leb-true _ _ (and_right (eqb a.kind 1) (leb c.bytes_for.result (length a.bytes.now)) c.if-kind-bytes_for.true) in
     rw (is-notification c, ← c.bytes_for.ensures) inside
 
+-- and it tells the count
+count-is : (c : After-read_field-count) → c.read_field-count.result ≡ count_in c.args.bytes.now
+count-is c =
+    c.read_field-count.ensures ∙ sym (count-1 c.args.bytes.now (is-notification (goal.at.After-read_field-count c).Then-kind-bytes_for))
+
+pub overflow_cast-count : goal.overflow_cast-count
+overflow_cast-count c = omega (arith, c.read_field-count.ensures, field_lt c.args.bytes.now 86 6)
+
 -- a number of bits is what the head tells, and with none the message is refused
 abbrev Said : List ℕ → ℕ → ℕ → Type 0
 Said s number n = (number ≡ (if bits_told s =? 0 then 21 else 0)) × (n ≡ bits_told s)
@@ -69,15 +78,18 @@ some_said s n l e =
 pub returns-then-count-gt-MOST_ENTRIES : goal.returns-then-count-gt-MOST_ENTRIES
 returns-then-count-gt-MOST_ENTRIES c =
     let s = c.args.bytes.now in
-    none_said s (many s (has-head (goal.at.returns-then-count-gt-MOST_ENTRIES c).Then-kind-bytes_for) (rw c.count_in-count.ensures at c.if-count-gt-MOST_ENTRIES.true))
+    let at = goal.at.returns-then-count-gt-MOST_ENTRIES c in
+    none_said s (many s (has-head at.Then-kind-bytes_for) (rw (count-is at.After-read_field-count) at c.if-count-gt-MOST_ENTRIES.true))
 
 pub returns-then-kind-bytes_for : goal.returns-then-kind-bytes_for
 unfolding layout_in
 returns-then-kind-bytes_for c =
     let s = c.args.bytes.now in
-    some_said s c.bits_for.result (omega (arith, c.bits_for.ensures, begins 1 c.count_in-count.result))
-    (c.bits_for.ensures
-    ∙ rw (c.count_in-count.ensures, ← is-notification (goal.at.returns-then-kind-bytes_for c).Then-kind-bytes_for) (few s (has-head (goal.at.returns-then-kind-bytes_for c).Then-kind-bytes_for) (rw c.count_in-count.ensures at c.if-count-gt-MOST_ENTRIES.false)))
+    let at = goal.at.returns-then-kind-bytes_for c in
+    let is = count-is at.After-read_field-count in
+    let inside = few s (has-head at.Then-kind-bytes_for) (rw is at c.if-count-gt-MOST_ENTRIES.false) in
+    some_said s c.bits_for.result (omega (arith, c.bits_for.ensures, begins 1 c.read_field-count.result))
+    (c.bits_for.ensures ∙ rw (is, ← is-notification at.Then-kind-bytes_for) inside)
 
 pub returns : goal.returns
 returns c =
