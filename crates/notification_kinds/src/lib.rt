@@ -169,30 +169,26 @@ fn kind_in(view: BookView<'_>, n: messages::Notification) -> Kind
 }
 
 // The tables have a place for each slot, day and period, and there are few.
-fn tables_fit(b: Book, slots: usize, lent1: usize, lent2: usize) -> bool
-    ensures { result ≡ fits b slots lent1 lent2 }
+fn tables_fit(view: BookView<'_>) -> bool
+    ensures { result ≡ fits view.entry.book (length view.entry.held.now) (length view.entry.side1.now) (length view.entry.side2.now) }
 {
-    let days = b.setup.days;
+    let days = view.book.setup.days;
     if limits::MOST_DAYS < days {
         return false;
     }
+    let slots = view.held.len();
     if limits::MOST_SLOTS < slots {
         return false;
     }
     let all = slots * days as usize * limits::PLACES_A_DAY;
-    (lent1 == all) & (lent2 == all)
+    (view.side1.len() == all) & (view.side2.len() == all)
 }
 
 // The kind of a notification; none where the tables do not fit the book.
 pub fn kind_of(view: BookView<'_>, n: messages::Notification) -> Option<Kind>
     ensures { number_found result ≡ kind_answer view.entry.book view.entry.held.now view.entry.side1.now view.entry.side2.now (notification_of n) }
 {
-    if !tables_fit(
-        view.book,
-        view.held.len(),
-        view.side1.len(),
-        view.side2.len(),
-    ) {
+    if !tables_fit(view) {
         return None;
     }
     Some(kind_in(view, n))
