@@ -63,9 +63,13 @@ pub fn padding_set(bytes: &[u8], days: u8, authorisations: u8) -> bool
 fn row_in(bytes: &[u8], days: u8, k: u8) -> Authorisation
     ensures { result ≡ row_in bytes.now days k }
 {
-    let widths = layouts::ROW_WIDTHS;
     let mut v = [0u32; 8];
-    fields::read_fields(bytes, layouts::bits_for(days, k), &widths, &mut v);
+    fields::read_fields(
+        bytes,
+        layouts::bits_for(days, k),
+        &layouts::ROW_WIDTHS,
+        &mut v,
+    );
     Authorisation {
         agent1: v[0] as u8,
         agent2: v[1] as u8,
@@ -105,9 +109,8 @@ fn rows_in(bytes: &[u8], days: u8, count: u8) -> [Authorisation; limits::MOST_AU
 fn setup_in(bytes: &[u8]) -> Setup
     ensures { result ≡ setup_struct_in bytes.now }
 {
-    let widths = layouts::HEAD_WIDTHS;
     let mut v = [0u32; 4];
-    fields::read_fields(bytes, 0, &widths, &mut v);
+    fields::read_fields(bytes, 0, &layouts::HEAD_WIDTHS, &mut v);
     let days = v[1] as u8;
     let authorisations = v[3] as u8;
     let codes = codes_in(bytes, days);

@@ -63,7 +63,6 @@ fn write_codes(s: Setup, out: &mut [u8])
 fn write_row(a: Authorisation, at: u32, out: &mut [u8])
     ensures { out.new ≡ row_into a at out.old }
 {
-    let widths = layouts::ROW_WIDTHS;
     let values = [
         a.agent1 as u32,
         a.agent2 as u32,
@@ -74,7 +73,7 @@ fn write_row(a: Authorisation, at: u32, out: &mut [u8])
         a.last as u32,
         a.amendment as u32,
     ];
-    fields::write_fields(out, at, &widths, &values);
+    fields::write_fields(out, at, &layouts::ROW_WIDTHS, &values);
 }
 
 // The rows behind the codes.
@@ -90,14 +89,13 @@ fn write_rows(s: Setup, out: &mut [u8])
 fn write_whole(s: Setup, out: &mut [u8])
     ensures { out.new ≡ setup_into s out.old }
 {
-    let widths = layouts::HEAD_WIDTHS;
     let values = [
         s.first as u32,
         s.days as u32,
         s.accounts as u32,
         s.authorisations as u32,
     ];
-    fields::write_fields(out, 0, &widths, &values);
+    fields::write_fields(out, 0, &layouts::HEAD_WIDTHS, &values);
     write_codes(s, out);
     write_rows(s, out);
     let bits = layouts::bits_for(s.days, s.authorisations);
