@@ -6,8 +6,8 @@ use Rattle.calls.proofs.notifications.notify.Goals as goal
 pub returns-then-not-is_sound : goal.returns-then-not-is_sound
 returns-then-not-is_sound c =
     let a = c.args in
-    let u = unsound-notifies a.b a.held.now a.side1.now a.side2.now a.n (sym c.is_sound.ensures ∙ c.if-not-is_sound.true) in
-    (c.refused.ensures ∙ u.0, u.1, u.2, u.3)
+    rw c.into.ensures
+    (unsound-notifies a.b a.held.now a.side1.now a.side2.now a.n (sym c.is_sound.ensures ∙ c.if-not-is_sound.true))
 
 pub do_notification-requires : goal.do_notification-requires
 do_notification-requires c =

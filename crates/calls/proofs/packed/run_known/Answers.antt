@@ -2,12 +2,15 @@
 use borrow.Author.Tests.{ltb-true, ltb-false}
 use mathlib.Core.Bool.{Bool, true, ◌&&◌}
 use mathlib.Core.List.{List}
-use mathlib.Core.Path.{◌≡◌, subst}
+use mathlib.Core.Path.{◌≡◌, ap, subst}
 use Prim.Native.Nat.{ℕ, ◌<◌, min}
 use native.Mathlib.Omega.{arith}
 use lib.Dec.{ltb}
 use lib.ListN.{length, drop}
+use Rattle.std.specs.Prelude.{Option, IfSome}
+use Rattle.std.specs.Option.{unwrap_or}
 use Rattle.laws.proofs.Cases.{on, and_left, and_right}
+use Rattle.calls.specs.Answers.{stepped_seen}
 use Rattle.calls.proofs.Promises.{Steps}
 use Rattle.calls.proofs.RunLaws.{rest_part, running-start, running-last, running-one, takes-some, running-full, running-out}
 use Rattle.calls.proofs.packed.run_known.Goals as goal
@@ -49,14 +52,14 @@ module _ (c : After-step-one) where
 
   promised : let l = turn.loop-done in
       let left = c.step-one.new in
-      Steps l.after l.held l.side1 l.side2 (drop l.used (start turn).args.bytes.now) c.step-one.result left.held left.side1 left.side2
+      Steps l.after l.held l.side1 l.side2 (drop l.used (start turn).args.bytes.now) (stepped_seen c.step-one.result) left.held left.side1 left.side2
   promised =
       let l = turn.loop-done in
       let left = c.step-one.new in
       subst
-      (λ (rest : List ℕ). Steps l.after l.held l.side1 l.side2 rest c.step-one.result left.held left.side1 left.side2)
+      (λ (rest : List ℕ). Steps l.after l.held l.side1 l.side2 rest (stepped_seen c.step-one.result) left.held left.side1 left.side2)
       (rest_part (start turn).args.bytes.now l.used)
-      c.step-one.ensures
+      (c.step-one.ensures.0, c.step-one.ensures.1, c.step-one.ensures.2, c.step-one.ensures.3)
 
 pub slice_bounds-step-count : goal.slice_bounds-step-count
 slice_bounds-step-count c = omega (arith, more (goal.at.slice_bounds-step-count c).In-loop-done)
@@ -79,10 +82,12 @@ pub overflow_add-done : goal.overflow_add-done
 overflow_add-done c =
     omega (arith, room (goal.at.overflow_add-done c).In-loop-done, c.loop-done.invariant.answers-length)
 
-pub returns-then-one-eq0 : goal.returns-then-one-eq0
-returns-then-one-eq0 c =
-    let t = turn (goal.at.returns-then-one-eq0 c).After-step-one in
-    running-last _ _ _ _ _ _ _ t.loop-done.invariant (room t) (more t) c.step-one.result _ _ _ (promised (goal.at.returns-then-one-eq0 c).After-step-one) c.if-one-eq0.true
+pub returns-in_default : goal.returns-in_default
+returns-in_default c =
+    let t = turn (goal.at.returns-in_default c).After-step-one in
+    let none : unwrap_or c.step-one.result.taken 0 ≡ 0 = ap (λ (o : Option ℕ). unwrap_or o 0) c.in_default.is in
+    rw (c.answer_told.ensures, c.place_told.ensures)
+    (running-last _ _ _ _ _ _ _ t.loop-done.invariant (room t) (more t) (stepped_seen c.step-one.result) _ _ _ (promised (goal.at.returns-in_default c).After-step-one) none)
 
 -- places in the bytes are numbers of 64 bits
 bytes_fit : (c : After-shared_slice_known-1) → length c.args.bytes.now < 18446744073709551616
@@ -91,8 +96,9 @@ bytes_fit c = omega arith
 pub overflow_add-used : goal.overflow_add-used
 overflow_add-used c =
     let t = turn (goal.at.overflow_add-used c).After-step-one in
-    let few = takes-some _ _ _ _ _ _ _ t.loop-done.invariant (room t) (more t) c.step-one.result _ _ _ (promised (goal.at.overflow_add-used c).After-step-one) in
-    omega (arith, few, bytes_fit (goal.at.overflow_add-used c).After-shared_slice_known-1)
+    let few = takes-some _ _ _ _ _ _ _ t.loop-done.invariant (room t) (more t) (stepped_seen c.step-one.result) _ _ _ (promised (goal.at.overflow_add-used c).After-step-one) in
+    let taken : unwrap_or c.step-one.result.taken 0 ≡ c.in-Some.taken = ap (λ (o : Option ℕ). unwrap_or o 0) c.in-Some.is in
+    omega (arith, few, taken, bytes_fit (goal.at.overflow_add-used c).After-shared_slice_known-1)
 
 pub loop-done-smaller : goal.loop-done-smaller
 loop-done-smaller c =
@@ -101,8 +107,11 @@ loop-done-smaller c =
 pub loop-done-preserved : goal.loop-done-preserved
 loop-done-preserved c =
     let t = turn (goal.at.loop-done-preserved c).After-step-one in
-    running-one _ _ _ _ _ _ _ t.loop-done.invariant (room t) (more t) c.step-one.result _ _ _ (promised (goal.at.loop-done-preserved c).After-step-one) c.if-one-eq0.false
-    c.step-one.auto.held c.step-one.auto.side1 c.step-one.auto.side2
+    let taken : unwrap_or c.step-one.result.taken 0 ≡ c.in-Some.taken = ap (λ (o : Option ℕ). unwrap_or o 0) c.in-Some.is in
+    let some : 0 < c.in-Some.taken = subst (λ (o : Option ℕ). IfSome o (λ n. 0 < n)) c.in-Some.is c.step-one.ensures.4 in
+    rw (← taken, c.answer_told.ensures, c.place_told.ensures)
+    (running-one _ _ _ _ _ _ _ t.loop-done.invariant (room t) (more t) (stepped_seen c.step-one.result) _ _ _ (promised (goal.at.loop-done-preserved c).After-step-one) (λ z. omega (arith, some, taken, z))
+    c.step-one.auto.held c.step-one.auto.side1 c.step-one.auto.side2)
 
 pub shape_of-held : goal.shape_of-held
 shape_of-held c = c.loop-done.invariant.held-length
