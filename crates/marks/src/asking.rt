@@ -17,19 +17,15 @@ use limits::refusals::Refusal;
 fn may_ask(b: book::Book, originator: u8, account: u8) -> bool
     ensures { result ≡ (account <? b.setup.accounts && in_pair (row_at (rows_in b.setup) originator) account) }
 {
-    let s = b.setup;
     let row = state::row_of(b, originator as u32);
-    (account < s.accounts) & figures::in_pair(row, account)
+    (account < b.setup.accounts) & figures::in_pair(row, account)
 }
 
 pub(crate) fn is_period(b: book::Book, day: u16, period: u8) -> bool
     ensures { result ≡ is_period (time_in b) day period }
 {
     let c = state::clock_of(b);
-    if !clock::has_day(c, day) {
-        return false;
-    }
-    clock::is_period_at(c, rows::day_of(b, day), period)
+    clock::has_day(c, day) && clock::is_period_at(c, rows::day_of(b, day), period)
 }
 
 // NotSound, NotHeld and NoSuchAccount: the refusals that speak of no day.

@@ -19,8 +19,7 @@ pub(crate) fn day_of(b: book::Book, day: u16) -> u8
     requires { has_day (time_in b) day ≡ true }
     ensures { result ≡ day_of (time_in b) day }
 {
-    let s = b.setup;
-    (day - s.first) as u8
+    (day - b.setup.first) as u8
 }
 
 // The periods of one of the book's days.
@@ -37,9 +36,8 @@ pub(crate) fn index_of(b: book::Book, slot: usize, day: u16, period: u8) -> usiz
     requires { (has_day (time_in b) day ≡ true) × (slot < 256) × (1 ≤ period) }
     ensures { result ≡ index (days (time_in b)) slot (day_of (time_in b) day) period }
 {
-    let s = b.setup;
     let d = day_of(b, day);
-    ledger::place_of(slot as u8, s.days, d, period - 1)
+    ledger::place_of(slot as u8, b.setup.days, d, period - 1)
 }
 
 // Whether a row is refused, and why.

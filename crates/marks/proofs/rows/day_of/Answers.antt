@@ -4,10 +4,6 @@ use Rattle.book.proofs.StateLaws.{days-few}
 use Rattle.marks.proofs.RowLaws.{has-day}
 use Rattle.marks.proofs.rows.day_of.Goals as goal
 
-pub overflow_sub-result : goal.overflow_sub-result
-overflow_sub-result c =
-    (has-day c.args.b c.args.day c.requires).from
-
 pub overflow_cast-result : goal.overflow_cast-result
 overflow_cast-result c =
     omega (arith, (has-day c.args.b c.args.day c.requires).place, days-few c.args.b c.well_formed.0)
