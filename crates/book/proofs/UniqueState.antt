@@ -15,7 +15,7 @@ use Rattle.setups.specs.Structs.{row_for}
 use Rattle.book.specs.declared.Book.{Book}
 use Rattle.book.specs.declared.Opened.{Opened}
 use Rattle.book.specs.Answers.{opened_seen}
-use Rattle.book.proofs.OpeningLaws.{OpensBy, opening_answer, same-opened}
+use Rattle.book.proofs.OpeningLaws.{OpensBy, opening_answer, same-opened, same-opened-packed}
 use Rattle.book.proofs.state.clock_of.Reads as clock-of
 use Rattle.book.proofs.state.row_of.Reads as row_of
 use Rattle.book.proofs.state.origin_place.Reads as origin-place
@@ -24,6 +24,7 @@ use Rattle.book.proofs.BookView.is_sound.Reads as is-sound
 use Rattle.book.proofs.opening.opening_refusal.Reads as opening-refusal
 use Rattle.book.proofs.opening.no_book.Reads as no-book
 use Rattle.book.proofs.opening.open.Reads as opening
+use Rattle.book.proofs.opening.open_packed.Reads as opening-packed
 
 pub unique-clock-of : OneResult clock-of.Post
 unique-clock-of κs a r r' s s' = one-outcome
@@ -57,6 +58,9 @@ unique-open = (
   λ κs a r r' s s' p q. one-outcome p.2 q.2,
   λ κs a r r' s s' p q. one-outcome p.3 q.3,
 )
+
+pub unique-open-packed-outcome : OneResult opening-packed.Post
+unique-open-packed-outcome κs a r r' s s' p q = same-opened-packed r r' (one-outcome p.0 q.0)
 
 -- what `open` ensures of what is given of its outcome, and of the three tables
 abbrev pub Opens : Setup → List ℕ → List ℤ → List ℤ → Opened → List ℕ → List ℤ → List ℤ → Type 0
