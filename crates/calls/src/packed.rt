@@ -117,29 +117,23 @@ fn run_known(
     ensures { let whole = applied_all (min (length answers.old) (length places.old)) (book_of b held.old side1.old side2.old) bytes.now in
         (ran_seen b (Ok result) ≡ ran_of b 0 whole) × (held.new ≡ whole.book.ledger.held) × (side1.new ≡ whole.book.ledger.side1) × (side2.new ≡ whole.book.ledger.side2) × (answers.new ≡ sets answers.old 0 (answers_in whole.outcomes)) × (places.new ≡ sets places.old 0 (places_in whole.outcomes)) }
 {
-    let mut after = b;
-    let mut used: usize = 0;
-    let mut done: usize = 0;
-    while (done < answers.len()) & (done < places.len()) & (used < bytes.len()) {
-        let one = step(after, &bytes[used..], held, side1, side2);
-        answers[done] = answer_told(one.told);
-        places[done] = place_told(one.told);
-        done += 1;
-        after = one.book;
+    let mut run = Run {
+        done: 0,
+        used: 0,
+        book: b,
+    };
+    while (run.done < answers.len()) & (run.done < places.len()) & (run.used < bytes.len()) {
+        let one = step(run.book, &bytes[run.used..], held, side1, side2);
+        answers[run.done] = answer_told(one.told);
+        places[run.done] = place_told(one.told);
+        run.done += 1;
+        run.book = one.book;
         let Some(taken) = one.taken else {
-            return Run {
-                done,
-                used,
-                book: after,
-            };
+            return run;
         };
-        used += taken;
+        run.used += taken;
     }
-    Run {
-        done,
-        used,
-        book: after,
-    }
+    run
 }
 
 // A run of packed messages, one after the other, until the bytes end, one is unreadable or the answers or the places beside them have no more

@@ -50,6 +50,6 @@ pub returns-in_err-kind_refusal-in_default : goal.returns-in_err-kind_refusal-in
 returns-in_err-kind_refusal-in_default c =
     let a = c.args in
     let p = err_from_is_err_and c.from_residual-in_err-kind_refusal-in_default.result c.from_residual-in_err-kind_refusal-in_default.ensures.1 in
-    let above : 3 ≤ a.m.kind = omega (arith, c.in_default.in_default-own.rest.0.0.1, c.in_default.in_default-own.rest.0.1, c.in_default.in_default-own.rest.1) in
+    let above : 3 ≤ a.m.kind = omega arith in
     rw (p.1, p.2, kind-other a.m above)
     (does-nothing a.b a.held.now a.side1.now a.side2.now a.m.kind _ above c.requires c.in_err-kind_refusal-in_default.ensures)
