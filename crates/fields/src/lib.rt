@@ -8,7 +8,10 @@ mod whole_bytes; // whole_bytes.rt: one field, by whole bytes joined and cut
 ghost use Rattle.std.specs.Prelude.{◌≡◌, ◌+◌, ◌%◌, ◌<◌, ◌^◌, min};
 ghost use Rattle.std.specs.Int.Signed.{mag};
 ghost use Rattle.words.specs.Fields.{field_at, set_field, fits_signed, signed_of, bits_of};
+ghost use Rattle.fields.specs.Fronts.{written_as};
 ghost use Rattle.fields.specs.Narrow.{narrow, fewest, read_into, write_from, volume_bits};
+
+use limits::refusals::Refusal;
 
 const WIDEST_FIELD: usize = 32;
 
@@ -33,6 +36,28 @@ const VOLUME_LEAST: i32 = -134217728;
 pub struct AtFront<T> {
     pub length: usize,
     pub value: T,
+}
+
+// What C is given of what was written at the front of a buffer: 0 beside how many bytes that are, or the refusal's number and no length.
+#[repr(C)]
+#[derive(Clone, Copy)]
+pub struct WrittenBytes {
+    pub answer: u8,
+    pub length: usize,
+}
+
+impl From<Result<usize, Refusal>> for WrittenBytes {
+    ghost from_gives = { λ outcome written. written ≡ written_as outcome };
+
+    fn from(outcome: Result<usize, Refusal>) -> WrittenBytes {
+        match outcome {
+            Ok(length) => WrittenBytes { answer: 0, length },
+            Err(refusal) => WrittenBytes {
+                answer: refusal.into(),
+                length: 0,
+            },
+        }
+    }
 }
 
 // A width, at most 32.

@@ -21,8 +21,8 @@ use Rattle.message_reading.proofs.read_message.Reads as read-message
 use Rattle.message_reading.proofs.Tells as Reading
 use Rattle.message_reading.proofs.ReadAgain.{read-message-again}
 use Rattle.message_writing.specs.Structs.{message_written}
-use Rattle.message_writing.specs.declared.MessageWritten.{MessageWritten}
-use Rattle.message_writing.proofs.Tells.{tells}
+use Rattle.fields.specs.declared.WrittenBytes.{WrittenBytes}
+use Rattle.fields.proofs.Fronts.{written-tells}
 use Rattle.message_writing.proofs.write_message.Reads as write-message
 
 -- THE ROUND TRIPS, of what `write_message` leaves and `read_message` gives
@@ -49,8 +49,8 @@ write-then-read-message κs κs' m out left bytes length r' p same q h =
     Reading.tells r' (Ok (record { length = length; value = settled m }))
     (q
     ∙ ap (λ (bytes : List ℕ). message_read (read_message bytes)) (same ∙ p.1)
-    ∙ written-message-reads m out.now h (ap (λ (w : MessageWritten). w.answer) (sym p.0))
-    ∙ ap (λ (w : MessageWritten). record { answer = 0; length = w.length; message = settled m }) (sym p.0))
+    ∙ written-message-reads m out.now h (ap (λ (w : WrittenBytes). w.answer) (sym p.0))
+    ∙ ap (λ (w : WrittenBytes). record { answer = 0; length = w.length; message = settled m }) (sym p.0))
 
 -- and what `read_message` gives, `write_message` writes again, over the front of its buffer
 read-struct-writes : (bytes out : List ℕ) (x : MessageRead) → x ≡ message_read (read_message bytes) → Bytes bytes → Bytes out → x.answer ≡ 0 → x.length ≤ length out
@@ -64,4 +64,4 @@ pub read-then-write-message : (κs κs' : Lfts 1) (bytes : Bor (List ℕ)) (out 
 unfolding message_written
 read-then-write-message κs κs' bytes out left r r' q p b c l =
     let again = read-struct-writes bytes.now out.now (read_as (Ok r)) q b c refl l in
-    (tells r' (Ok r.length) (p.0 ∙ rw again), p.1 ∙ rw again)
+    (written-tells r' (Ok r.length) (p.0 ∙ rw again), p.1 ∙ rw again)

@@ -2,5 +2,4 @@
 pub mod WriteParts
 pub mod StructRanges
 pub mod EitherWay
-pub mod Tells
 pub mod Unique

@@ -6,33 +6,12 @@ ghost use Rattle.words.specs.Rules.{answer};
 ghost use Rattle.limits.specs.Refusals.{answer_of};
 ghost use Rattle.meaning.specs.PackedMessages.{writing_rules, write_message};
 ghost use Rattle.messages.specs.Structs.{message_of};
-ghost use Rattle.message_writing.specs.Structs.{message_written, written_as};
+ghost use Rattle.fields.specs.Fronts.{written_as};
+ghost use Rattle.message_writing.specs.Structs.{message_written};
 ghost use Rattle.message_writing.specs.Writing.{entry_fits, entries_fit, notification_fits, nullification_fits, message_fits, count_of, entries_written, notification_written, nullification_written, message_into};
 
 use limits::refusals::Refusal;
 use messages::{Entry, Message, Notification, Nullification, layouts};
-
-// With a refusal the length is 0.
-#[repr(C)]
-#[derive(Clone, Copy)]
-pub struct MessageWritten {
-    pub answer: u8,
-    pub length: usize,
-}
-
-impl From<Result<usize, Refusal>> for MessageWritten {
-    ghost from_gives = { λ outcome s. s ≡ written_as outcome };
-
-    fn from(outcome: Result<usize, Refusal>) -> MessageWritten {
-        match outcome {
-            Ok(length) => MessageWritten { answer: 0, length },
-            Err(refusal) => MessageWritten {
-                answer: refusal.into(),
-                length: 0,
-            },
-        }
-    }
-}
 
 const SIX_BITS: u8 = 64;
 // "period 6, volume 28 in two's complement"

@@ -26,8 +26,8 @@ use Rattle.setup_reading.specs.declared.SetupRead.{SetupRead}
 use Rattle.setup_reading.proofs.Outcomes.{setup-read-tells}
 use Rattle.setup_reading.proofs.read_setup.Reads as read-setup
 use Rattle.setup_writing.specs.Structs.{setup_written, settled}
-use Rattle.setup_writing.specs.declared.SetupWritten.{SetupWritten}
-use Rattle.setup_writing.proofs.Outcomes.{setup-written-tells}
+use Rattle.fields.specs.declared.WrittenBytes.{WrittenBytes}
+use Rattle.fields.proofs.Fronts.{written-tells}
 use Rattle.setup_writing.proofs.write_setup.Reads as write-setup
 use Rattle.setups.specs.declared.Setup.{Setup}
 use Rattle.setup_reading.proofs.ReadParts.{struct_holds, few-codes, few-rows}
@@ -98,8 +98,8 @@ write-then-read-setup κs κs' s out left bytes slots lent1 lent2 n r p same q h
     setup-read-tells r (Ok (record { length = n; value = settled s }))
     (q
     ∙ ap (λ (bytes : List ℕ). setup_read (read_setup bytes slots lent1 lent2)) (same ∙ p.1)
-    ∙ written-setup-reads s out.now slots lent1 lent2 (ap (λ (w : SetupWritten). w.answer) (sym p.0)) h
-    ∙ ap (λ (w : SetupWritten). record { answer = 0; length = w.length; setup = settled s }) (sym p.0))
+    ∙ written-setup-reads s out.now slots lent1 lent2 (ap (λ (w : WrittenBytes). w.answer) (sym p.0)) h
+    ∙ ap (λ (w : WrittenBytes). record { answer = 0; length = w.length; setup = settled s }) (sym p.0))
 
 -- and what `read_setup` gives, `write_setup` writes again, over the front of its buffer
 pub read-then-write-setup : (κs κs' : Lfts 1) (bytes : Bor (List ℕ)) (out left : MutBor (List ℕ)) (slots lent1 lent2 : ℕ) (front : AtFront Setup) (r : Result ℕ Refusal)
@@ -111,6 +111,6 @@ read-then-write-setup κs κs' bytes out left slots lent1 lent2 front r q p b c 
     let length-read = ap (λ (x : SetupRead). x.length) q in
     let setup-read = ap (λ (x : SetupRead). x.setup) q in
     let again = read-setup-writes bytes.now out.now slots lent1 lent2 b c (ap (λ (x : SetupRead). x.answer) (sym q)) (rw length-read at l) in (
-      setup-written-tells r (Ok front.length) (p.0 ∙ rw (setup-read, length-read, again)),
+      written-tells r (Ok front.length) (p.0 ∙ rw (setup-read, length-read, again)),
       p.1 ∙ rw (setup-read, length-read, again),
     )

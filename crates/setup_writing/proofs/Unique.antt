@@ -2,7 +2,7 @@
 use Rattle.limits.proofs.AnswerNumbers.{same-answer}
 use Rattle.laws.proofs.Cases.{one-outcome}
 use Rattle.laws.proofs.Promises.{OneOutcome, OneResult}
-use Rattle.setup_writing.proofs.Outcomes.{setup-written-tells}
+use Rattle.fields.proofs.Fronts.{written-tells}
 use Rattle.setup_writing.proofs.writing_refusal.Reads as writing-refusal
 use Rattle.setup_writing.proofs.write_setup.Reads as write-setup
 
@@ -11,6 +11,6 @@ unique-writing-refusal κs a r r' s s' p q = same-answer r r' (one-outcome p q)
 
 pub unique-write-setup : OneResult write-setup.Post × OneOutcome write-setup.Post (λ κs r s. s.1.0.now)
 unique-write-setup = (
-  λ κs a r r' s s' p q. setup-written-tells r r' (one-outcome p.0 q.0),
+  λ κs a r r' s s' p q. written-tells r r' (one-outcome p.0 q.0),
   λ κs a r r' s s' p q. one-outcome p.1 q.1,
 )

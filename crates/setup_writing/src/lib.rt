@@ -6,33 +6,12 @@ ghost use Rattle.words.specs.Rules.{answer};
 ghost use Rattle.limits.specs.Refusals.{answer_of};
 ghost use Rattle.meaning.specs.PackedSetups.{setup_writing_rules, write_setup};
 ghost use Rattle.setups.specs.Structs.{setup_of};
-ghost use Rattle.setup_writing.specs.Structs.{setup_written, as_setup_written};
+ghost use Rattle.fields.specs.Fronts.{written_as};
+ghost use Rattle.setup_writing.specs.Structs.{setup_written};
 ghost use Rattle.setup_writing.specs.Writing.{codes_into, row_into, rows_into, setup_into};
 
 use limits::refusals::Refusal;
 use setups::{Authorisation, Setup, layouts, rules};
-
-// What C is given. With a refusal the length is 0.
-#[repr(C)]
-#[derive(Clone, Copy)]
-pub struct SetupWritten {
-    pub answer: u8,
-    pub length: usize,
-}
-
-impl From<Result<usize, Refusal>> for SetupWritten {
-    ghost from_gives = { λ outcome written. written ≡ as_setup_written outcome };
-
-    fn from(outcome: Result<usize, Refusal>) -> SetupWritten {
-        match outcome {
-            Ok(length) => SetupWritten { answer: 0, length },
-            Err(refusal) => SetupWritten {
-                answer: refusal.into(),
-                length: 0,
-            },
-        }
-    }
-}
 
 // What refuses this setup for a buffer with this room. Its values always fit their fields once 17 and 18 have passed, so 23 never comes.
 pub fn writing_refusal(s: Setup, room: usize) -> Result<(), Refusal>
@@ -105,7 +84,7 @@ fn write_whole(s: Setup, out: &mut [u8])
 
 // The setup at the front of the buffer, and how many bytes it takes. Bytes past what is written stay; a refusal leaves the whole buffer as it was.
 pub fn write_setup(s: Setup, out: &mut [u8]) -> Result<usize, Refusal>
-    ensures { (as_setup_written result ≡ setup_written (write_setup (setup_of s) out.old)) × (out.new ≡ (write_setup (setup_of s) out.old).out) }
+    ensures { (written_as result ≡ setup_written (write_setup (setup_of s) out.old)) × (out.new ≡ (write_setup (setup_of s) out.old).out) }
 {
     writing_refusal(s, out.len())?;
     write_whole(s, out);

@@ -9,33 +9,12 @@ ghost use Rattle.decimals.specs.Texts.{Written};
 ghost use Rattle.messages.specs.Structs.{entry_of};
 ghost use Rattle.spreadsheets.specs.Structs.{entries_in};
 ghost use Rattle.spreadsheets.specs.Writing.{size_text, mwh_text, entry_line, written, writable, write_spreadsheet};
-ghost use Rattle.spreadsheet_writing.specs.Structs.{spreadsheet_written, as_written};
+ghost use Rattle.fields.specs.Fronts.{written_as};
+ghost use Rattle.spreadsheet_writing.specs.Structs.{spreadsheet_written};
 
 use limits::refusals::Refusal;
 use messages::Entry;
 use spreadsheets::Spreadsheet;
-
-// With a refusal the length is 0.
-#[repr(C)]
-#[derive(Clone, Copy)]
-pub struct SpreadsheetWritten {
-    pub answer: u8,
-    pub length: usize,
-}
-
-impl From<Result<usize, Refusal>> for SpreadsheetWritten {
-    ghost from_gives = { λ outcome written. written ≡ as_written outcome };
-
-    fn from(outcome: Result<usize, Refusal>) -> SpreadsheetWritten {
-        match outcome {
-            Ok(length) => SpreadsheetWritten { answer: 0, length },
-            Err(refusal) => SpreadsheetWritten {
-                answer: refusal.into(),
-                length: 0,
-            },
-        }
-    }
-}
 
 // No file is longer: the header has 11 bytes, and no line of an entry more than 14.
 const MOST_BYTES: usize = 11 + 14 * limits::MOST_ENTRIES_WIDE;
@@ -111,7 +90,7 @@ fn put_file(out: &mut [u8], x: Spreadsheet) -> usize
 
 // The file at the front of the buffer, and its length. Bytes past it stay. It is made beside the buffer, since only then its length is known.
 pub fn write_spreadsheet(x: Spreadsheet, out: &mut [u8]) -> Result<usize, Refusal>
-    ensures { (as_written result ≡ spreadsheet_written (write_spreadsheet (entries_in x) out.old)) × (out.new ≡ (write_spreadsheet (entries_in x) out.old).out) }
+    ensures { (written_as result ≡ spreadsheet_written (write_spreadsheet (entries_in x) out.old)) × (out.new ≡ (write_spreadsheet (entries_in x) out.old).out) }
 {
     if !all_writable(x) {
         return Err(Refusal::ValueDoesNotFit);

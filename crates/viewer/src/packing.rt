@@ -21,7 +21,7 @@ pub extern "C" fn ghendufika_read_message(bytes: &[u8]) -> message_reading::Mess
 pub extern "C" fn ghendufika_write_message(
     m: messages::Message,
     out: &mut [u8],
-) -> message_writing::MessageWritten
+) -> fields::WrittenBytes
     ensures { (result ≡ message_written (write_message (message_of m) out.old)) × (out.new ≡ (write_message (message_of m) out.old).out) }
 {
     message_writing::write_message(m, out)
@@ -31,7 +31,7 @@ pub extern "C" fn ghendufika_write_message(
 pub extern "C" fn ghendufika_write_setup(
     s: setups::Setup,
     out: &mut [u8],
-) -> setup_writing::SetupWritten
+) -> fields::WrittenBytes
     ensures { (result ≡ setup_written (write_setup (setup_of s) out.old)) × (out.new ≡ (write_setup (setup_of s) out.old).out) }
 {
     setup_writing::write_setup(s, out)

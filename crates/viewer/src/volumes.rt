@@ -16,7 +16,7 @@ pub extern "C" fn ghendufika_read_spreadsheet(bytes: &[u8]) -> spreadsheet_readi
 pub extern "C" fn ghendufika_write_spreadsheet(
     x: spreadsheets::Spreadsheet,
     out: &mut [u8],
-) -> spreadsheet_writing::SpreadsheetWritten
+) -> fields::WrittenBytes
     ensures { (result ≡ spreadsheet_written (write_spreadsheet (entries_in x) out.old)) × (out.new ≡ (write_spreadsheet (entries_in x) out.old).out) }
 {
     spreadsheet_writing::write_spreadsheet(x, out)

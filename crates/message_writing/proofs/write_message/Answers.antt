@@ -14,7 +14,8 @@ use Rattle.meaning.specs.PackedMessages.{writing_rules, write_message, layout_of
 use Rattle.meaning.proofs.PackedMessageRules.{writing-done, writable}
 use Rattle.messages.specs.Structs.{message_of}
 use Rattle.messages.specs.declared.Message.{Message}
-use Rattle.message_writing.specs.Structs.{message_written, written_as}
+use Rattle.message_writing.specs.Structs.{message_written}
+use Rattle.fields.specs.Fronts.{written_as}
 use Rattle.message_writing.proofs.StructRanges.{held}
 use Rattle.message_writing.proofs.WriteParts.{done-fits, message-into, layout-held}
 use Rattle.message_writing.proofs.write_message.Goals as goal

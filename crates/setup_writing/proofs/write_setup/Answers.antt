@@ -8,7 +8,8 @@ use Rattle.words.specs.Rules.{answer}
 use Rattle.meaning.specs.PackedSetups.{setup_writing_rules, write_setup}
 use Rattle.meaning.proofs.PackedSetupRules.{SetupWritable, setup-writable, setup-writing-done}
 use Rattle.setups.specs.Structs.{setup_of}
-use Rattle.setup_writing.specs.Structs.{setup_written, as_setup_written}
+use Rattle.setup_writing.specs.Structs.{setup_written}
+use Rattle.fields.specs.Fronts.{written_as}
 use Rattle.setup_writing.proofs.ValuesFit.{counted, layout-own}
 use Rattle.setup_writing.proofs.WriteParts.{setup-into-length, setup-into-packed}
 use Rattle.setup_writing.proofs.write_setup.Goals as goal
@@ -19,7 +20,7 @@ returns-in_err-writing_refusal c =
     let refusal = c.in_err-writing_refusal.field-0.0 in
     let given : c.from_residual.result ≡ Err refusal = search rules in
     let e = c.in_err-writing_refusal.ensures in
-    (ap as_setup_written given ∙ rw (← e, not-done refusal), rw (← e, not-done refusal))
+    (ap written_as given ∙ rw (← e, not-done refusal), rw (← e, not-done refusal))
 
 pub shape_of-out : goal.shape_of-out
 shape_of-out c =
