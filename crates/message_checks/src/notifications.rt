@@ -186,7 +186,8 @@ pub fn checks_outcome(b: Book, n: messages::Notification) -> Result<(), Fault>
     entries_outcome(b, n)
 }
 
-// 12, 13 and 14, of its kind, its authorisation's type, its slot and the number of slots.
+// 12, 13 and 14, of its kind, its authorisation's type, its slot and the number of slots. The kind comes by its number, as the rules have it: a narrower
+// type would ask more of callers.
 pub fn late_refusal(kind: u8, amendment: u8, slot: usize, slots: usize) -> Result<(), Refusal>
     ensures { answer_of result ≡ answer (late_rules kind amendment slot slots) }
 {

@@ -144,7 +144,7 @@ fn blank_slots(side: &mut [i32], held: &[u32], b: Book, account: u8, other: u8, 
 }
 
 // A nullification: in each slot whose identifier is between the two accounts the mark, at the open places from the first day on. Either side.
-// More slots than a book has stay as they came.
+// More slots than a book has stay as they came. The side is written, so it comes beside the book and not in a view.
 pub fn blank_pair(side: &mut [i32], held: &[u32], b: Book, account: u8, other: u8, first: u16)
     ensures { (σ : Side) → side.new ≡ pair_blanked b account other first held.now σ side.old }
 {

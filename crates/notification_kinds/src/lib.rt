@@ -36,7 +36,8 @@ fn is_other(
     (entry != own) & ((origin.account1 == mine.account1) & (origin.account2 == mine.account2))
 }
 
-// A slot states something of a day and a period, counted from 0, on a side that is written.
+// A slot states something of a day and a period, counted from 0, on a side that is written. It is asked innermost, so it is handed the two sides and not
+// the view, whose book would be copied; two flags need no struct.
 fn states_at(
     side1: &[i32],
     side2: &[i32],
