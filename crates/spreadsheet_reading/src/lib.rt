@@ -6,13 +6,14 @@ mod lines; // lines.rt: a line while its bytes come
 
 ghost use Rattle.std.specs.Prelude.{◌≡◌, ◌+◌, ◌≤◌, length, if◌then◌else◌};
 ghost use Rattle.words.specs.Tests.{◌=?◌};
-ghost use Rattle.spreadsheet_reading.specs.Machine.{column_table, turn_table, fresh_state};
+ghost use Rattle.spreadsheet_reading.specs.Machine.{fresh_state};
 ghost use Rattle.spreadsheet_reading.specs.Reading.{Reading, as_spreadsheet_read};
 
 use limits::refusals::Refusal;
 use lines::Line;
 use messages::Entry;
 use spreadsheets::Spreadsheet;
+use table::Tables;
 
 // Why the bytes are refused, and at which of them it was decided; the end counts as one.
 #[derive(Clone, Copy)]
@@ -65,8 +66,7 @@ fn begun_after(begun: u8, state: u8) -> u8
 }
 
 // Reads by the two tables, which are lent.
-fn read_by(columns: &[u8], turns: &[u8], bytes: &[u8]) -> Result<Spreadsheet, Unreadable>
-    requires { (columns.now ≡ column_table) × (turns.now ≡ turn_table) }
+fn read_by(tables: Tables<'_>, bytes: &[u8]) -> Result<Spreadsheet, Unreadable>
     ensures { Reading bytes.now (as_spreadsheet_read (length bytes.now) result) }
 {
     let mut entries = [Entry::NONE; limits::MOST_ENTRIES_WIDE];
@@ -74,7 +74,7 @@ fn read_by(columns: &[u8], turns: &[u8], bytes: &[u8]) -> Result<Spreadsheet, Un
     let mut state = table::START;
     let mut begun: u8 = 0;
     for (place, &byte) in bytes.iter().enumerate() {
-        let turn = table::turn_by(columns, turns, state, byte);
+        let turn = tables.turn_by(state, byte);
         if turn < table::FIRST_STATE {
             return Err(Unreadable {
                 refusal: table::refusal_in(turn),
@@ -94,7 +94,7 @@ fn read_by(columns: &[u8], turns: &[u8], bytes: &[u8]) -> Result<Spreadsheet, Un
         line = lines::line_after(line, byte);
         state = turn - table::FIRST_STATE;
     }
-    let turn = table::turn_at_end(turns, state);
+    let turn = tables.turn_at_end(state);
     if turn != table::FILE {
         return Err(Unreadable {
             refusal: table::refusal_in(turn),
@@ -117,5 +117,9 @@ pub fn read_spreadsheet(bytes: &[u8]) -> Result<Spreadsheet, Unreadable>
 {
     let columns = table::COLUMNS;
     let turns = table::TURNS;
-    read_by(&columns, &turns, bytes)
+    let tables = Tables {
+        columns: &columns,
+        turns: &turns,
+    };
+    read_by(tables, bytes)
 }

@@ -115,36 +115,46 @@ pub(crate) const FRESH: u8 = b'Z' - FIRST_STATE;
 // A file ends here.
 pub(crate) const FILE: u8 = b'.';
 
-fn column_of(columns: &[u8], byte: u8) -> usize
-    requires { columns.now ≡ column_table }
-    ensures { result ≡ column_of byte }
-{
-    let i = byte as usize;
-    (columns[i] - FIRST_COLUMN) as usize
+// Both tables, lent. They are the definition's, so whoever holds them owes nothing about them.
+#[derive(Clone, Copy)]
+pub(crate) struct Tables<'a> {
+    pub columns: &'a [u8],
+    pub turns: &'a [u8],
+    ghost columns_are: { columns.now ≡ column_table },
+    ghost turns_are: { turns.now ≡ turn_table },
 }
 
-fn turn_at(turns: &[u8], state: u8, column: usize) -> u8
-    requires { (turns.now ≡ turn_table) × (state < states) × (column ≤ end) }
-    ensures { result ≡ turn_at state column }
-{
-    let i = state as usize * ROW + (COLUMNS_FROM + column);
-    turns[i]
-}
+impl Tables<'_> {
+    fn column_of(self, byte: u8) -> usize
+        ensures { result ≡ column_of byte }
+    {
+        let i = byte as usize;
+        (self.columns[i] - FIRST_COLUMN) as usize
+    }
 
-// What comes next after this byte. Both tables are lent.
-pub(crate) fn turn_by(columns: &[u8], turns: &[u8], state: u8, byte: u8) -> u8
-    requires { (columns.now ≡ column_table) × (turns.now ≡ turn_table) × (state < states) }
-    ensures { result ≡ turn_at state (column_of byte) }
-{
-    turn_at(turns, state, column_of(columns, byte))
-}
+    fn turn_at(self, state: u8, column: usize) -> u8
+        requires { (state < states) × (column ≤ end) }
+        ensures { result ≡ turn_at state column }
+    {
+        let i = state as usize * ROW + (COLUMNS_FROM + column);
+        self.turns[i]
+    }
 
-// What comes next where the bytes end.
-pub(crate) fn turn_at_end(turns: &[u8], state: u8) -> u8
-    requires { (turns.now ≡ turn_table) × (state < states) }
-    ensures { result ≡ turn_at state end }
-{
-    turn_at(turns, state, END)
+    // What comes next after this byte.
+    pub(crate) fn turn_by(self, state: u8, byte: u8) -> u8
+        requires { state < states }
+        ensures { result ≡ turn_at state (column_of byte) }
+    {
+        self.turn_at(state, self.column_of(byte))
+    }
+
+    // What comes next where the bytes end.
+    pub(crate) fn turn_at_end(self, state: u8) -> u8
+        requires { state < states }
+        ensures { result ≡ turn_at state end }
+    {
+        self.turn_at(state, END)
+    }
 }
 
 // Why it refuses.

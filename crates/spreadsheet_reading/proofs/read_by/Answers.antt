@@ -46,7 +46,7 @@ module _ (c : After-turn_by-turn) where
 
 pub turn_by-turn-requires : goal.turn_by-turn-requires
 turn_by-turn-requires c =
-    (c.requires.0, c.requires.1, c.loop-place.invariant.known.reached.small)
+    c.loop-place.invariant.known.reached.small
 
 -- a refusal at a place, with no entries
 refusing : (s : List ℕ) (answer place : ℕ) → (answer =? 0) ≡ false → Judged s answer place → Reading s (record { answer = answer; place = place; spreadsheet = no_spreadsheet })
@@ -126,7 +126,7 @@ loop-place-preserved c =
 
 pub turn_at_end-turn-requires : goal.turn_at_end-turn-requires
 turn_at_end-turn-requires c =
-    (c.requires.1, c.loop-place.invariant.known.reached.small)
+    c.loop-place.invariant.known.reached.small
 
 -- all bytes are read
 module _ (c : After-loop-place) where

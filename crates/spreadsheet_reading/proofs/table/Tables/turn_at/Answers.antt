@@ -6,7 +6,7 @@ use native.Mathlib.Omega.{arith}
 use lib.ListN.{length, get_or}
 use Rattle.spreadsheet_reading.specs.Machine.{turn_table, turn_at}
 use Rattle.spreadsheet_reading.proofs.RightTables.{table-length}
-use Rattle.spreadsheet_reading.proofs.table.turn_at.Goals as goal
+use Rattle.spreadsheet_reading.proofs.table.Tables.turn_at.Goals as goal
 
 module _ (lent : List ℕ) (state column : ℕ) (e : lent ≡ turn_table) (h : state < 55) (k : column ≤ 18) where
   inside : state * 50 + (2 + column) < length lent
@@ -16,10 +16,10 @@ module _ (lent : List ℕ) (state column : ℕ) (e : lent ≡ turn_table) (h : s
   unfolding turn_at
   is-turn = rw e
 
-pub bounds-turns-i : goal.bounds-turns-i
-bounds-turns-i c =
-    inside c.args.turns.now c.args.state c.args.column c.requires.0 c.requires.1 c.requires.2
+pub bounds-self-i : goal.bounds-self-i
+bounds-self-i c =
+    inside c.args.self.turns.now c.args.state c.args.column c.args.self.turns_are c.requires.0 c.requires.1
 
 pub returns : goal.returns
 returns c =
-    is-turn c.args.turns.now c.args.state c.args.column c.requires.0 c.requires.1 c.requires.2
+    is-turn c.args.self.turns.now c.args.state c.args.column c.args.self.turns_are c.requires.0 c.requires.1
