@@ -58,9 +58,8 @@ pub fn turn(
         used: 0,
         book: b,
     };
-    let ran = calls::packed::apply_all(b, bytes, held, side1, side2, answers, places).unwrap_or(
-        none,
-    );
+    let outcome = calls::packed::apply_all(b, bytes, held, side1, side2, answers, places);
+    let ran = outcome.unwrap_or(none);
     let last = last_of(answers, ran.done);
     let waiting = is_kept(ended, size, ran.used, last);
     let told = count_told(waiting, ran.done);

@@ -26,22 +26,22 @@ module _ (k : After-count_told-told) where
   abbrev ran : AppliedAll
   ran =
       record {
-        answer = (ran_seen k.args.b k.apply_all.result).answer;
+        answer = (ran_seen k.args.b k.apply_all-outcome.result).answer;
         done = k.unwrap_or-ran.result.done;
         used = k.unwrap_or-ran.result.used;
         book = k.unwrap_or-ran.result.book;
       }
 
   ran-is : ran ≡ ran_of k.args.b (run_answer before) run
-  ran-is = goes-on k.args.b k.apply_all.result k.unwrap_or-ran.result k.unwrap_or-ran.ensures ∙ k.apply_all.ensures.0
+  ran-is = goes-on k.args.b k.apply_all-outcome.result k.unwrap_or-ran.result k.unwrap_or-ran.ensures ∙ k.apply_all-outcome.ensures.0
 
-  stored : Stored run.outcomes k.args.answers.now k.args.places.now k.apply_all.new.answers k.apply_all.new.places
+  stored : Stored run.outcomes k.args.answers.now k.args.places.now k.apply_all-outcome.new.answers k.apply_all-outcome.new.places
   stored =
       record {
         answers-fit = omega (arith, run-few room before k.args.bytes.now);
         places-fit = omega (arith, run-few room before k.args.bytes.now);
-        answers-stored = k.apply_all.ensures.4;
-        places-stored = k.apply_all.ensures.5;
+        answers-stored = k.apply_all-outcome.ensures.4;
+        places-stored = k.apply_all-outcome.ensures.5;
       }
 
   inside : k.count_told-told.result ≤ length run.outcomes
@@ -72,7 +72,7 @@ slice_bounds-put_message_lines-end-4 c =
 pub returns : goal.returns
 returns c =
     let k = (goal.at.returns c).After-count_told-told in
-    let e = c.apply_all.ensures in
+    let e = c.apply_all-outcome.ensures in
     let a = c.args in
     let p = c.put_message_lines-written in
     let t = turn-told a.b a.ended (length a.bytes.now) (run_answer (before k)) (run k) (ran k) (stored k) (ran-is k)
