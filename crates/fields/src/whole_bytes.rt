@@ -33,8 +33,8 @@ fn joined(src: &[u8], first: usize, count: usize) -> u64
     ensures { result ≡ field_at src.now (first * 8) (count * 8) }
 {
     let mut word: u64 = 0;
-    for i in first..first + count {
-        word = join(word, byte(src, i) as u64, 8);
+    for n in 0..count {
+        word = join(word, byte(src, first + n) as u64, 8);
     }
     word
 }

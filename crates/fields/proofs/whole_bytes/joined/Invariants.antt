@@ -1,8 +1,8 @@
--- Before byte i the word is the field of the bytes before it.
+-- Before byte n the word is the field of the bytes before it.
 use mathlib.Core.Path.{◌≡◌}
-use Prim.Native.Nat.{◌-◌, ◌*◌, ◌≤◌}
+use Prim.Native.Nat.{◌*◌}
 use Rattle.words.specs.Fields.{field_at}
 use Rattle.fields.proofs.whole_bytes.joined.Given as goal
 
-abbrev pub invariant-loop-i : goal.invariant-loop-i
-invariant-loop-i l = (l.first ≤ l.i) × (l.word ≡ field_at l.src (l.first * 8) ((l.i - l.first) * 8))
+abbrev pub invariant-loop-n : goal.invariant-loop-n
+invariant-loop-n l = l.word ≡ field_at l.src (l.first * 8) (l.n * 8)
