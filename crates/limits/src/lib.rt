@@ -1,7 +1,6 @@
 // The limits of document 01, and A1's and A5's of document 02, each once and by name; the answer numbers beside them. A name in _WIDE is the same limit in a wider type.
 #![tactic(auto)]
 
-pub mod numbers; // numbers.rt: the answer numbers
 pub mod refusals; // refusals.rt: why a request is refused, and the number that C is given
 pub mod kinds; // kinds.rt: the numbers of kinds and types
 
