@@ -40,7 +40,7 @@ pub fn bar_of(row: setups::Authorisation, account: u8, v: i32, w: i32) -> Bar
     }
 }
 
-// ---- the number and the values of a case
+// ---- the number and the values of a case: three functions, each of its own definition, since C is given the three apart
 
 pub fn case_of(bar: Bar) -> u8
     ensures { result ≡ case_of bar }

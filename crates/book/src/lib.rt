@@ -14,7 +14,7 @@ pub struct Book {
     pub closed: u16,
 }
 
-// A book beside its lent tables, as every question of it is asked.
+// A book beside its lent tables, as every question of it is asked. Where a call changes the tables, they are lent apart: a struct of `&mut`s needs a clause for each that it is still the same loan.
 #[derive(Clone, Copy)]
 pub struct BookView<'a> {
     pub book: Book,
@@ -23,7 +23,7 @@ pub struct BookView<'a> {
     pub side2: &'a [i32],
 }
 
-// With a refusal the book is all zero.
+// What C is given. With a refusal the book is all zero.
 #[repr(C)]
 #[derive(Clone, Copy)]
 pub struct Opened {
@@ -31,7 +31,7 @@ pub struct Opened {
     pub book: Book,
 }
 
-// The length is that of the packed setup. With a refusal it is 0, and the book all zero.
+// What C is given. The length is that of the packed setup. With a refusal it is 0, and the book all zero.
 #[repr(C)]
 #[derive(Clone, Copy)]
 pub struct OpenedPacked {

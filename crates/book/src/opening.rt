@@ -1,4 +1,4 @@
-// "Opening closes no gate, holds no identifier and sets every place to the mark." The setup rules are 17 and 18.
+// "Opening closes no gate, holds no identifier and sets every place to the mark." The setup rules are 17 and 18. The tables that a call changes are lent apart (crate book, `BookView`).
 ghost use Rattle.std.specs.Prelude.{◌≡◌, length, replicate};
 ghost use Rattle.words.specs.Rules.{answer};
 ghost use Rattle.limits.specs.Refusals.{answer_of};

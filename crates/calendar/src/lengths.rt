@@ -62,7 +62,7 @@ pub fn day_length(day: u32) -> Result<u8, Refusal>
     Ok(periods_on(day as u16))
 }
 
-// "0, 1, 2 for 46, 48, 50" (document 01)
+// "0, 1, 2 for 46, 48, 50" (document 01). A code is a number, as C has it in a setup.
 fn code_for(periods: u8) -> u8
     ensures { result ≡ code_for periods }
 {

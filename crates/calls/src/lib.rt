@@ -30,7 +30,7 @@ pub struct Run {
     pub book: book::Book,
 }
 
-// With a refusal the book is as it came.
+// What C is given, here and below. With a refusal the book is as it came.
 #[repr(C)]
 #[derive(Clone, Copy)]
 pub struct Gated {

@@ -1,4 +1,5 @@
 // A nullification blanks both sides of each identifier between its two accounts (document 01, "What a notification does"; refusals 1, 2, 15, 9).
+// The tables that a call changes are lent apart (crate book, `BookView`).
 ghost use Rattle.std.specs.Prelude.{◌≡◌};
 ghost use Rattle.words.specs.Rules.{answer};
 ghost use Rattle.meaning.specs.Messages.{nullification};

@@ -1,4 +1,4 @@
-// A packed message done to a book, and a run of packed messages (meaning, PackedCalls.antt).
+// A packed message done to a book, and a run of packed messages (meaning, PackedCalls.antt). The tables that a call changes are lent apart (crate book, `BookView`).
 ghost use Rattle.std.specs.Prelude.{true, ◌≡◌, ◌<◌, Ok, min, length, IfSome};
 ghost use Rattle.std.proofs.lemmas.List.Edits.{sets};
 ghost use Rattle.meaning.specs.Soundness.{sound};
@@ -103,7 +103,8 @@ fn place_told(told: Result<(), Fault>) -> u8
     }
 }
 
-// A run on a book that is known to be sound: each accepted message keeps it so. Each message says itself where the next begins.
+// A run on a book that is known to be sound: each accepted message keeps it so. A `while`, since each message says
+// itself where the next begins. Answers and places are lent apart, as C has them.
 fn run_known(
     b: Book,
     bytes: &[u8],

@@ -1,4 +1,6 @@
 // What a book that is known to be sound does with a message: the private core of every call. The tests of soundness are its callers'.
+// That the book is sound is asked by each function here: a type that held the fact would hold the tables too, which are lent as `&mut` (crate book,
+// `BookView`).
 ghost use Rattle.std.specs.Prelude.{true, ◌≡◌};
 ghost use Rattle.meaning.specs.Messages.{notification, nullification};
 ghost use Rattle.meaning.specs.Authorisations.{row_at};

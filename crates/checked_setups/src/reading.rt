@@ -1,4 +1,4 @@
-// A packed setup, checked: 19, 17, 19, 17, 18, 27, 28, 22.
+// A packed setup, checked: 19, 17, 19, 17, 18, 27, 28, 22. The tables that a call changes are lent apart (crate book, `BookView`).
 ghost use Rattle.std.specs.Prelude.{◌≡◌, length};
 ghost use Rattle.words.specs.Rules.{answer};
 ghost use Rattle.limits.specs.Refusals.{answer_of};

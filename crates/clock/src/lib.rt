@@ -5,7 +5,8 @@ ghost use Rattle.std.specs.Prelude.{◌≡◌};
 ghost use Rattle.meaning.specs.Time.{periods_of_code, periods_at, is_period_at, gates_before, is_open_at, has_day, every_gate_closed, current_day};
 ghost use Rattle.clock.specs.Structs.{time_of};
 
-// The number of the first day, the first `days` codes, and the number of gates closed.
+// The number of the first day, the first `days` codes, and the number of gates closed. There is no heap, so the codes stand in an array of the most days,
+// their number beside it.
 #[repr(C)]
 #[derive(Clone, Copy)]
 pub struct Clock {

@@ -1,5 +1,6 @@
 // Words and decimal numbers as ASCII bytes in a lent buffer, from a place `at` on. Each answers the place after its text; where there is no room for the
-// whole of it, nothing is written and the place stays.
+// whole of it, nothing is written and the place stays. The buffer and the place are two parameters: a struct that holds the `&mut` needs in each method a
+// clause that it is still the same loan.
 #![tactic(auto)]
 
 ghost use Rattle.std.specs.Prelude.{◌≡◌, ◌+◌, ◌%◌, nat_abs, length};

@@ -1,6 +1,7 @@
 // A field read and written by whole bytes: the bytes that hold it are joined to one word, the first of them at its top, and the field is cut out of
 // the word by shift and mask. To write it, the word is made with the field in it and cut into its bytes again, so that the bytes at both ends keep
-// their other bits. A byte past the end is 0, and writing one changes nothing.
+// their other bits. A byte past the end is 0, and writing one changes nothing. A place and a width stay two parameters, with what they owe: a struct of
+// the two would be made anew for each field.
 ghost use Rattle.std.specs.Prelude.{◌≡◌, ◌+◌, ◌*◌, ◌/◌, ◌%◌, ◌≤◌, ◌<◌, ◌^◌, length, get_or, set};
 ghost use Rattle.words.specs.Fields.{field_at, set_field};
 

@@ -1,4 +1,4 @@
-// The limits of document 01, and A1's and A5's of document 02, each once and by name; the answer numbers beside them. A name in _WIDE is the same limit in a wider type.
+// The limits of document 01, and A1's and A5's of document 02, each once and by name; refusals and kinds beside them. A name in _WIDE is the same limit in a wider type.
 #![tactic(auto)]
 
 pub mod refusals; // refusals.rt: why a request is refused, and the number that C is given

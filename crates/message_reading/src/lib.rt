@@ -24,7 +24,7 @@ const VOLUME_WIDTH: u32 = 28;
 
 const VOLUME_MASK: u64 = 0xfffffff;
 
-// With a refusal the length is 0 and the message all zero.
+// What C is given. With a refusal the length is 0 and the message all zero.
 #[repr(C)]
 #[derive(Clone, Copy)]
 pub struct MessageRead {
@@ -52,7 +52,7 @@ impl From<Result<AtFront<Message>, Refusal>> for MessageRead {
     }
 }
 
-// The kind, 0 to 3.
+// The kind, 0 to 3: a number, as in a message by value, and kind three too, which is refused.
 pub fn kind_in(bytes: &[u8]) -> u8
     ensures { result ≡ kind_in bytes.now }
 {

@@ -21,7 +21,8 @@ impl Entry {
     };
 }
 
-// `authorisation` is the number of the one that it is sent under; the identifier is originator and reference. Entries past `count` are no part of it.
+// `authorisation` is the number of the one that it is sent under; the identifier is originator and reference. Entries past `count` are no part of it:
+// C fills the array and the count beside it.
 #[repr(C)]
 #[derive(Clone, Copy)]
 pub struct Notification {
@@ -68,7 +69,8 @@ impl Nullification {
     };
 }
 
-// Kind 0 is a gate, 1 a notification, 2 a nullification. What a kind lacks is no part of it, and reads as zero.
+// Kind 0 is a gate, 1 a notification, 2 a nullification. What a kind lacks is no part of it, and reads as zero. C fills the kind with any
+// number, so it is no enum: what is no kind is refused by its number.
 #[repr(C)]
 #[derive(Clone, Copy)]
 pub struct Message {

@@ -5,7 +5,7 @@ pub mod authorisations; // authorisations.rt: who writes which side
 pub mod rules; // rules.rt: what can be wrong with a setup
 pub mod layouts; // layouts.rt: the bits and bytes that it takes
 
-// An authorisation. `amendment` is its type: 0 both, 1 replacement, 2 additional. A last day of 65,535 is evergreen.
+// An authorisation. `amendment` is its type: 0 both, 1 replacement, 2 additional; C fills it with any number, so it is no enum. A last day of 65,535 is evergreen.
 #[repr(C)]
 #[derive(Clone, Copy)]
 pub struct Authorisation {
@@ -33,7 +33,8 @@ impl Authorisation {
     };
 }
 
-// The first `days` codes (0, 1, 2 for 46, 48, 50 periods) and the first `authorisations` rows are its own; what follows them is no part of it.
+// The first `days` codes (0, 1, 2 for 46, 48, 50 periods) and the first `authorisations` rows are its own; what follows them is no part of
+// it. C fills the arrays and the numbers beside them.
 #[repr(C)]
 #[derive(Clone, Copy)]
 pub struct Setup {

@@ -1,4 +1,5 @@
-// The lines that the sheet program prints (document 01, "The sheet program"), as bytes in a lent buffer.
+// The lines that the sheet program prints (document 01, "The sheet program"), as bytes in a lent buffer. The buffer and the place
+// are two parameters, as in decimals.
 #![tactic(auto)]
 
 ghost use Rattle.std.specs.Prelude.{◌≡◌, ◌+◌, ◌≤◌, length};

@@ -115,7 +115,8 @@ pub(crate) const FRESH: u8 = b'Z' - FIRST_STATE;
 // A file ends here.
 pub(crate) const FILE: u8 = b'.';
 
-// Both tables, lent. They are the definition's, so whoever holds them owes nothing about them.
+// Both tables, lent. They are the definition's, so whoever holds them owes nothing about them. A state stays a number: the tables' rows are counted by it, and
+// `every-turn` and `every-state` speak of those rows.
 #[derive(Clone, Copy)]
 pub(crate) struct Tables<'a> {
     pub columns: &'a [u8],

@@ -4,4 +4,3 @@ use Rattle.fields.specs.declared.WrittenBytes.{WrittenBytes}
 
 unfoldable pub spreadsheet_written : Written → WrittenBytes
 spreadsheet_written w = record { answer = w.answer; length = w.length }
-

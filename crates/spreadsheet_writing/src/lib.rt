@@ -1,5 +1,5 @@
 // Writes what a spreadsheet holds as its file (document 02, A5): 23 for more than fifty entries or for one out of range, 24 for no room. A refusal
-// leaves the whole buffer as it was.
+// leaves the whole buffer as it was. The buffer and the place in it are two parameters, as in decimals.
 #![tactic(auto)]
 
 ghost use Rattle.std.specs.Prelude.{◌&&◌, ◌≡◌, ◌+◌, ◌≤◌, length};
