@@ -1,6 +1,5 @@
 -- The clock by value holds the book's time, and a number names a row of the book or the row that is all zero; so does an entry.
-use mathlib.Core.Bool.{true, false, ◌&&◌, true≢false}
-use mathlib.Core.Logic.{◌≢◌}
+use mathlib.Core.Bool.{false, ◌&&◌, true≢false}
 use mathlib.Core.Path.{◌≡◌, refl, sym, ap, ◌∙◌}
 use Prim.Native.Nat.{ℕ, zero, suc, ◌-◌, ◌<◌, ◌≤◌}
 use native.Mathlib.Omega.{arith}
@@ -69,23 +68,6 @@ place-few entry e = omega (arith, e)
 place-own : (i : ℕ) → originator_of i < 64 → origin_place (suc i) ≡ originator_of i
 unfolding origin_place
 place-own i h = let e : suc i - 1 ≡ i = omega arith in rw e (omega arith)
-
--- an entry that holds an identifier is one more than it
-module _ (authorisations : ℕ) (row : Authorisation) where
-  pub origin-row-none : (entry : ℕ) → entry ≡ 0 → no_authorisation ≡ origin_row authorisations entry row
-  unfolding origin_row
-  origin-row-none entry e = rw e
-
-  module _ {k : ℕ} where
-    pub origin-row-own : (entry : ℕ) → entry ≢ 0 → k ≡ originator_of (entry - 1) → ltb k authorisations && ltb k 64 ≡ true → row ≡ origin_row authorisations entry row
-    unfolding origin_row
-    origin-row-own zero n q t = absurd (n refl)
-    origin-row-own (suc i) n q t = let e : suc i - 1 ≡ i = omega arith in rw (rw (q, e) at t)
-
-    pub origin-row-past : (entry : ℕ) → entry ≢ 0 → k ≡ originator_of (entry - 1) → ltb k authorisations && ltb k 64 ≡ false → no_authorisation ≡ origin_row authorisations entry row
-    unfolding origin_row
-    origin-row-past zero n q t = absurd (n refl)
-    origin-row-past (suc i) n q t = let e : suc i - 1 ≡ i = omega arith in rw (rw (q, e) at t)
 
 origin-known : (s : Setup) (entry : ℕ) → length s.rows ≡ 64
     → row_of (origin_row s.authorisations entry (get_or s.rows (origin_place entry) no_authorisation)) ≡ origin_in (rows_in s) entry

@@ -13,6 +13,7 @@ use fields::AtFront;
 use limits::refusals::Refusal;
 
 // Whether this setup with so many slots and two lent tables of these lengths is refused, and why.
+#[tactic(auto, unfolding(words::specs::Rules::answer, meaning::specs::Books::opening_rules))]
 pub fn opening_refusal(
     s: setups::Setup,
     slots: usize,

@@ -49,6 +49,7 @@ pub fn origin_place(entry: u32) -> usize
 
 // The originating authorisation of the identifier that an entry holds, where the array has `row` at that place; all zero where the entry holds none,
 // or a book of so many authorisations has none of that number.
+#[tactic(auto, unfolding(crate::specs::Structs::origin_row))]
 pub fn origin_row(
     authorisations: u8,
     entry: u32,

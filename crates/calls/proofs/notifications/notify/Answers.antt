@@ -8,10 +8,3 @@ returns-then-not-is_sound c =
     let a = c.args in
     rw c.into.ensures
     (unsound-notifies a.b a.held.now a.side1.now a.side2.now a.n (sym c.is_sound.ensures ∙ c.if-not-is_sound.true))
-
-pub do_notification-requires : goal.do_notification-requires
-do_notification-requires c =
-    sym c.is_sound.ensures ∙ c.if-not-is_sound.false
-
-pub returns : goal.returns
-returns c = c.do_notification.ensures
