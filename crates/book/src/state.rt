@@ -15,6 +15,7 @@ pub fn clock_of(b: Book) -> clock::Clock
     ensures { result ≡ clock_in b }
 {
     let s = b.setup;
+    // An array straight from a field into a literal gets no generated proof.
     let codes = s.codes;
     clock::Clock {
         first: s.first,
