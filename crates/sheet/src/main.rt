@@ -131,7 +131,7 @@ fn take_turn(
 }
 
 // The messages, turn by turn, until a turn does not go on. A proved loop has to end, and nothing says that the input does: so it may end too after as
-// many turns as 64 bits count, which no run uses up.
+// many turns as 64 bits count, which no run uses up. The promise names how many were taken, so they are counted.
 fn print_messages(
     streams: &mut Streams,
     start: Progress,

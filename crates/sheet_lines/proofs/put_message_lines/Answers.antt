@@ -10,9 +10,6 @@ use Rattle.sheet_lines.proofs.Outcomes.{outcomes-count, outcome-at}
 use Rattle.sheet_lines.proofs.Sequences.{message-placed, message-after}
 use Rattle.sheet_lines.proofs.put_message_lines.Goals as goal
 
-pub loop-answer-init : goal.loop-answer-init
-loop-answer-init c = record { buffer = refl; place = refl }
-
 pub loop-answer-preserved : goal.loop-answer-preserved
 loop-answer-preserved c =
     let answers = c.args.answers.now in
