@@ -18,7 +18,7 @@ use Rattle.limits.specs.Refusals.{number_of}
 use Rattle.limits.specs.Kinds.{number_of_kind}
 use Rattle.fields.specs.declared.AtFront.{AtFront}
 use Rattle.message_checks.specs.declared.Fault.{Fault}
-use Rattle.message_checks.specs.Checks.{outcome_of}
+use Rattle.message_checks.specs.Checks.{outcome_told}
 use Rattle.book.specs.declared.Book.{Book}
 use Rattle.book.specs.Structs.{time_in}
 use Rattle.calls.specs.declared.Gated.{Gated}
@@ -119,7 +119,7 @@ pub record StepDone : Type 0 where
 
 abbrev pub stepped_seen : Stepped → StepDone
 stepped_seen s =
-    record { answer = (outcome_of s.told).answer; place = (outcome_of s.told).place; length = unwrap_or s.taken 0; book = s.book }
+    record { answer = (outcome_told s.told).answer; place = (outcome_told s.told).place; length = unwrap_or s.taken 0; book = s.book }
 
 abbrev pub stepped_of : Book → Step → StepDone
 stepped_of b s = record { answer = s.outcome.answer; place = s.outcome.place; length = s.length; book = book_at b s.book }

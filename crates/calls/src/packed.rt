@@ -3,7 +3,7 @@ ghost use Rattle.std.specs.Prelude.{true, ◌≡◌, ◌<◌, Ok, min, length, I
 ghost use Rattle.std.proofs.lemmas.List.Edits.{sets};
 ghost use Rattle.meaning.specs.Soundness.{sound};
 ghost use Rattle.meaning.specs.PackedCalls.{applied, stepped, answers_in, places_in, applied_all, run_answer, run_on};
-ghost use Rattle.message_checks.specs.Checks.{outcome_of};
+ghost use Rattle.message_checks.specs.Checks.{outcome_told};
 ghost use Rattle.book.specs.Structs.{book_of};
 ghost use Rattle.calls.specs.Answers.{applied_of, applied_seen, stepped_of, stepped_seen, ran_of, ran_seen};
 
@@ -86,7 +86,7 @@ pub fn apply(
 
 // The answer number and the place that a message is told; both 0 where it is done.
 fn answer_told(told: Result<(), Fault>) -> u8
-    ensures { result ≡ (outcome_of told).answer }
+    ensures { result ≡ (outcome_told told).answer }
 {
     match told {
         Ok(()) => 0,
@@ -95,7 +95,7 @@ fn answer_told(told: Result<(), Fault>) -> u8
 }
 
 fn place_told(told: Result<(), Fault>) -> u8
-    ensures { result ≡ (outcome_of told).place }
+    ensures { result ≡ (outcome_told told).place }
 {
     match told {
         Ok(()) => 0,

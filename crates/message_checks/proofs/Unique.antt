@@ -7,13 +7,13 @@ use Rattle.words.specs.Rules.{Outcome}
 use Rattle.limits.specs.declared.refusals.Refusal.{Refusal}
 use Rattle.limits.proofs.AnswerNumbers.{same-number, never-done, same-answer}
 use Rattle.message_checks.specs.declared.Fault.{Fault}
-use Rattle.message_checks.specs.Checks.{outcome_of}
+use Rattle.message_checks.specs.Checks.{outcome_told}
 use Rattle.message_checks.proofs.notifications.checks_outcome.Reads as checks-outcome
 use Rattle.message_checks.proofs.notifications.late_refusal.Reads as late-refusal
 use Rattle.message_checks.proofs.nullifications.judge_nullification.Reads as judge-nullification
 
 -- the answer number and the place tell what was refused
-pub same-told : (r s : Result Unit Fault) → outcome_of r ≡ outcome_of s → r ≡ s
+pub same-told : (r s : Result Unit Fault) → outcome_told r ≡ outcome_told s → r ≡ s
 same-told (Ok _) (Ok _) e = refl
 same-told (Ok _) (Err f) e = never-done f.refusal (sym (ap (λ (o : Outcome). o.answer) e))
 same-told (Err f) (Ok _) e = never-done f.refusal (ap (λ (o : Outcome). o.answer) e)

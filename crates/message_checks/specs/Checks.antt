@@ -12,9 +12,9 @@ use Rattle.limits.specs.Refusals.{number_of}
 use Rattle.message_checks.specs.declared.Fault.{Fault}
 
 -- what may be refused with a place, by its answer number and that place: 0 and 0 where it is done. No two have the same outcome (Unique).
-abbrev pub outcome_of : Result Unit Fault → Outcome
-outcome_of (Ok _) = placeless 0
-outcome_of (Err fault) = record { answer = number_of fault.refusal; place = fault.place }
+abbrev pub outcome_told : Result Unit Fault → Outcome
+outcome_told (Ok _) = placeless 0
+outcome_told (Err fault) = record { answer = number_of fault.refusal; place = fault.place }
 
 -- 2 to 11 of a notification, which read no table
 unfoldable pub check_rules : {K : Sort} → Setting → Notification K → List Rule

@@ -9,7 +9,7 @@ ghost use Rattle.messages.specs.Structs.{notification_of};
 ghost use Rattle.setups.specs.Structs.{row_of};
 ghost use Rattle.book.specs.Structs.{time_in, rows_in, setting_in};
 ghost use Rattle.limits.specs.Refusals.{answer_of};
-ghost use Rattle.message_checks.specs.Checks.{outcome_of, check_rules, late_rules};
+ghost use Rattle.message_checks.specs.Checks.{outcome_told, check_rules, late_rules};
 
 use crate::Fault;
 use book::{Book, state};
@@ -153,7 +153,7 @@ fn days_refusal(b: Book, n: messages::Notification, today: u32) -> Result<(), Re
 
 // 10 and 11: its entries, with the place of the first that offends (02, A3).
 fn entries_outcome(b: Book, n: messages::Notification) -> Result<(), Fault>
-    ensures { outcome_of result ≡ outcome (entry_rules (setting_in b) (notification_of n)) }
+    ensures { outcome_told result ≡ outcome (entry_rules (setting_in b) (notification_of n)) }
 {
     let period = first_wrong_period(b, n);
     if period < n.count {
@@ -174,7 +174,7 @@ fn entries_outcome(b: Book, n: messages::Notification) -> Result<(), Fault>
 
 // The first rule from 2 to 11 that refuses the notification, and the place that it carries.
 pub fn checks_outcome(b: Book, n: messages::Notification) -> Result<(), Fault>
-    ensures { outcome_of result ≡ outcome (check_rules (setting_in b) (notification_of n)) }
+    ensures { outcome_told result ≡ outcome (check_rules (setting_in b) (notification_of n)) }
 {
     let time = state::clock_of(b);
     if clock::every_gate_closed(time) {
