@@ -7,10 +7,18 @@ ghost use Rattle.meaning.specs.Ledgers.{index, origin_in};
 ghost use Rattle.meaning.specs.Totals.{figures_rules};
 ghost use Rattle.setups.specs.Structs.{row_of};
 ghost use Rattle.book.specs.Structs.{time_in, rows_in, book_seen};
-ghost use Rattle.position.specs.Counting.{counted_at};
+ghost use Rattle.position.specs.Counting.{DayAsked, counted_at};
 
 use book::BookView;
 use limits::refusals::Refusal;
+
+// A day of a sound book, by its place in it.
+#[derive(Clone, Copy)]
+pub(crate) struct AskedDay<'a> {
+    pub view: BookView<'a>,
+    pub place: u8,
+    ghost asked: { DayAsked (book_seen view) place },
+}
 
 // What a slot counts on a day by: its identifier's originating authorisation, and the place of the day's first period in the tables.
 #[derive(Clone, Copy)]
@@ -19,16 +27,18 @@ pub(crate) struct SlotDay {
     pub first: usize,
 }
 
-// Of a slot on the day at place d. By reference, so that no turn of a loop copies the book.
-pub(crate) fn slot_day(view: &BookView<'_>, slot: usize, d: u8) -> SlotDay
-    requires { (slot < length view.now.held.now) × (slot < 256) }
-    ensures { (row_of result.origin ≡ origin_in (rows_in view.now.book.setup) (get_or view.now.held.now slot 0)) × (result.first ≡ index view.now.book.setup.days slot d 1) }
+// Of a slot on the day. By reference, so that no turn of a loop copies the book.
+pub(crate) fn slot_day(day: &AskedDay<'_>, slot: usize) -> SlotDay
+    requires { slot < length day.now.view.held.now }
+    ensures { let setup = day.now.view.book.setup in
+        (row_of result.origin ≡ origin_in (rows_in setup) (get_or day.now.view.held.now slot 0)) × (result.first ≡ index setup.days slot day.now.place 1) }
 {
-    let entry = view.held[slot];
-    let row = view.book.setup.rows[book::state::origin_place(entry)];
+    let entry = day.view.held[slot];
+    let setup = &day.view.book.setup;
+    let row = setup.rows[book::state::origin_place(entry)];
     SlotDay {
-        origin: book::state::origin_row(view.book.setup.authorisations, entry, row),
-        first: ledger::place_of(slot as u8, view.book.setup.days, d, 0),
+        origin: book::state::origin_row(setup.authorisations, entry, row),
+        first: ledger::place_of(slot as u8, setup.days, day.place, 0),
     }
 }
 
@@ -51,10 +61,10 @@ pub(crate) fn counted_at(
     figures::seen_by(row, account, v)
 }
 
-// The place of the day that a question of an account's day asks for; or its refusal: NotSound, NoSuchAccount or NoSuchDay.
-pub(crate) fn day_asked(view: BookView<'_>, account: u8, day: u16) -> Result<u8, Refusal>
+// The day that a question of an account's day asks for; or its refusal: NotSound, NoSuchAccount or NoSuchDay.
+pub(crate) fn day_asked(view: BookView<'_>, account: u8, day: u16) -> Result<AskedDay<'_>, Refusal>
     ensures refusal { answer_of result ≡ answer (figures_rules (book_seen view.entry) account day) }
-    ensures place { IfOk result (λ d. d ≡ day_of (time_in view.entry.book) day) }
+    ensures place { IfOk result (λ asked. (asked.view ≡ view.entry) × (asked.place ≡ day_of (time_in view.entry.book) day)) }
 {
     if !view.is_sound() {
         return Err(Refusal::NotSound);
@@ -65,5 +75,6 @@ pub(crate) fn day_asked(view: BookView<'_>, account: u8, day: u16) -> Result<u8,
     if !clock::has_day(book::state::clock_of(view.book), day) {
         return Err(Refusal::NoSuchDay);
     }
-    Ok((day - view.book.setup.first) as u8)
+    let place = (day - view.book.setup.first) as u8;
+    Ok(AskedDay { view, place })
 }

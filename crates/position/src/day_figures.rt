@@ -3,10 +3,11 @@ ghost use Rattle.std.specs.Prelude.{true, false, ◌≡◌, ◌≤◌, ◌<◌, 
 ghost use Rattle.meaning.specs.Totals.{day_sum};
 ghost use Rattle.setups.specs.Structs.{row_of};
 ghost use Rattle.book.specs.Structs.{book_seen};
-ghost use Rattle.position.specs.Counting.{DayAsked, PartInside, SumsOf, part_of, slot_part, figures_for};
+ghost use Rattle.position.specs.Counting.{PartInside, SumsOf, part_of, slot_part, figures_for};
 ghost use Rattle.position.specs.Totals.{figured_of, figured};
 
-use crate::{DayFigures, Sums, counting};
+use crate::counting::{self, AskedDay};
+use crate::{DayFigures, Sums};
 use book::BookView;
 use limits::refusals::Refusal;
 
@@ -36,19 +37,24 @@ fn slot_sums(
     Sums { sold, bought }
 }
 
-// What all slots sold and bought over the day at place d. A sound book's slots are few, so the sums fit and are converted exactly.
-fn day_sums(view: BookView<'_>, account: u8, d: u8) -> Sums
-    requires { DayAsked (book_seen view) d }
-    ensures { let before = book_seen view.entry in
+// What all slots sold and bought over the day. A sound book's slots are few, so the sums fit and are converted exactly.
+fn day_sums(day: AskedDay<'_>, account: u8) -> Sums
+    ensures { let before = book_seen day.entry.view in
+        let d = day.entry.place in
         SumsOf result (day_sum (part_of false) before account d) (day_sum (part_of true) before account d) 27487790694400 }
 {
-    let periods = clock::periods_at(book::state::clock_of(view.book), d) as usize;
+    let periods = clock::periods_at(book::state::clock_of(day.view.book), day.place) as usize;
     let mut sold: i64 = 0;
     let mut bought: i64 = 0;
-    for slot in 0..view.held.len() {
-        let at = counting::slot_day(&view, slot, d);
+    for slot in 0..day.view.held.len() {
+        let at = counting::slot_day(&day, slot);
         let sums = slot_sums(
-            at.origin, account, view.side1, view.side2, at.first, periods,
+            at.origin,
+            account,
+            day.view.side1,
+            day.view.side2,
+            at.first,
+            periods,
         );
         sold += sums.sold;
         bought += sums.bought;
@@ -73,7 +79,7 @@ fn day_figures(sold: i64, bought: i64) -> DayFigures
 pub fn figures(view: BookView<'_>, account: u8, day: u16) -> Result<DayFigures, Refusal>
     ensures { figured_of result ≡ figured (book_seen view.entry) account day }
 {
-    let d = counting::day_asked(view, account, day)?;
-    let sums = day_sums(view, account, d);
+    let asked = counting::day_asked(view, account, day)?;
+    let sums = day_sums(asked, account);
     Ok(day_figures(sums.sold, sums.bought))
 }

@@ -7,10 +7,10 @@ ghost use Rattle.meaning.specs.Time.{periods_at};
 ghost use Rattle.meaning.specs.Totals.{sum_of};
 ghost use Rattle.setups.specs.Structs.{row_of};
 ghost use Rattle.book.specs.Structs.{time_in, book_seen};
-ghost use Rattle.position.specs.Counting.{DayAsked, PartInside, counted_at, sum_answered};
+ghost use Rattle.position.specs.Counting.{PartInside, counted_at, sum_answered};
 ghost use Rattle.position.specs.Totals.{totalled_of, totalled, day_total_rules, day_totals};
 
-use crate::counting;
+use crate::counting::{self, AskedDay};
 use book::BookView;
 use limits::refusals::Refusal;
 
@@ -24,16 +24,16 @@ fn answered(kwh: i64) -> Result<i64, Refusal>
     Err(Refusal::TotalTooLarge)
 }
 
-// What all slots count together on the day at place d in the period at place p, both from 0. A sound book's slots are few, so the sum fits.
-fn sum_of(view: BookView<'_>, account: u8, d: u8, p: u8) -> i64
-    requires { DayAsked (book_seen view) d × (p < 50) }
-    ensures { result ≡ sum_of (book_seen view.entry) account d (suc p) }
+// What all slots count together on the day in the period at place p, from 0. A sound book's slots are few, so the sum fits.
+fn sum_of(day: AskedDay<'_>, account: u8, p: u8) -> i64
+    requires { p < 50 }
+    ensures { result ≡ sum_of (book_seen day.entry.view) account day.entry.place (suc p) }
 {
     let mut kwh: i64 = 0;
-    for slot in 0..view.held.len() {
-        let at = counting::slot_day(&view, slot, d);
+    for slot in 0..day.view.held.len() {
+        let at = counting::slot_day(&day, slot);
         let place = at.first + p as usize;
-        kwh += counting::counted_at(at.origin, account, view.side1, view.side2, place);
+        kwh += counting::counted_at(at.origin, account, day.view.side1, day.view.side2, place);
     }
     kwh
 }
@@ -42,11 +42,11 @@ fn sum_of(view: BookView<'_>, account: u8, d: u8, p: u8) -> i64
 pub fn total(view: BookView<'_>, account: u8, day: u16, period: u8) -> Result<i64, Refusal>
     ensures { totalled_of result ≡ totalled (book_seen view.entry) account day period }
 {
-    let d = counting::day_asked(view, account, day)?;
-    if !clock::is_period_at(book::state::clock_of(view.book), d, period) {
+    let asked = counting::day_asked(view, account, day)?;
+    if !clock::is_period_at(book::state::clock_of(view.book), asked.place, period) {
         return Err(Refusal::NoSuchDay);
     }
-    answered(sum_of(view, account, d, period - 1))
+    answered(sum_of(asked, account, period - 1))
 }
 
 // Nothing counted yet in any of the day's periods.
@@ -79,17 +79,24 @@ fn add_slot(
     }
 }
 
-// What all slots count together in every period of the day at place d: one pass over what is lent. Of a sound book each sum is a total: 26 never comes.
-fn store_totals(view: BookView<'_>, account: u8, d: u8, out: &mut [i64])
-    requires { DayAsked (book_seen view) d × (periods_at (time_in view.book).codes d ≤ length out.old) }
-    ensures { out.new ≡ on_front (periods_at (time_in view.entry.book).codes d) (λ (p : ℕ) (old : ℤ). sum_of (book_seen view.entry) account d (suc p)) out.old }
+// What all slots count together in every period of the day: one pass over what is lent. Of a sound book each sum is a total: 26 never comes.
+fn store_totals(day: AskedDay<'_>, account: u8, out: &mut [i64])
+    requires { periods_at (time_in day.view.book).codes day.place ≤ length out.old }
+    ensures { let d = day.entry.place in
+        out.new ≡ on_front (periods_at (time_in day.entry.view.book).codes d) (λ (p : ℕ) (old : ℤ). sum_of (book_seen day.entry.view) account d (suc p)) out.old }
 {
-    let periods = clock::periods_at(book::state::clock_of(view.book), d) as usize;
+    let periods = clock::periods_at(book::state::clock_of(day.view.book), day.place) as usize;
     clear(out, periods);
-    for slot in 0..view.held.len() {
-        let at = counting::slot_day(&view, slot, d);
+    for slot in 0..day.view.held.len() {
+        let at = counting::slot_day(&day, slot);
         add_slot(
-            at.origin, account, view.side1, view.side2, at.first, periods, out,
+            at.origin,
+            account,
+            day.view.side1,
+            day.view.side2,
+            at.first,
+            periods,
+            out,
         );
     }
 }
@@ -99,11 +106,11 @@ pub fn day_totals(view: BookView<'_>, account: u8, day: u16, out: &mut [i64]) ->
     ensures { let before = book_seen view.entry in
         (answer_of result ≡ answer (day_total_rules before account day (length out.old))) × (out.new ≡ day_totals before account day out.old) }
 {
-    let d = counting::day_asked(view, account, day)?;
-    let periods = clock::periods_at(book::state::clock_of(view.book), d);
+    let asked = counting::day_asked(view, account, day)?;
+    let periods = clock::periods_at(book::state::clock_of(view.book), asked.place);
     if out.len() < periods as usize {
         return Err(Refusal::NoRoom);
     }
-    store_totals(view, account, d, out);
+    store_totals(asked, account, out);
     Ok(())
 }

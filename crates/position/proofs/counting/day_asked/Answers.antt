@@ -14,7 +14,7 @@ use Rattle.words.specs.Rules.{answer}
 use Rattle.book.specs.Structs.{time_in, book_seen}
 use Rattle.book.proofs.SoundParts.{codes-count}
 use Rattle.book.proofs.StateLaws.{clock-time}
-use Rattle.position.proofs.TotalLaws.{asked, unsound-refused, account-refused, day-refused, none-refuses}
+use Rattle.position.proofs.TotalLaws.{asked, day-asked, unsound-refused, account-refused, day-refused, none-refuses}
 use Rattle.position.proofs.counting.day_asked.Goals as goal
 use Rattle.position.proofs.counting.day_asked.Goals.{After-has_day, Else-not-has_day, Else-not-is_sound, Start}
 
@@ -50,11 +50,16 @@ none c =
     let a = c.args in
     none-refuses (book_seen a.view) a.account a.day (held-sound (goal.at.Else-not-has_day c).Else-not-is_sound) (lt-ltb a.account a.view.book.setup.accounts c.if-view-account.false) (sym (day-there (goal.at.Else-not-has_day c).After-has_day) ∙ c.if-not-has_day.false)
 
-pub overflow_cast-result : goal.overflow_cast-result
-overflow_cast-result c =
+pub overflow_cast-place : goal.overflow_cast-place
+overflow_cast-place c =
     let a = c.args in
     let few : a.view.book.setup.days < 256 = search rules in
-    omega (arith, few, (asked (book_seen a.view) a.account a.day (none (goal.at.overflow_cast-result c).Else-not-has_day)).inside, codes-count a.view.book)
+    omega (arith, few, (asked (book_seen a.view) a.account a.day (none (goal.at.overflow_cast-place c).Else-not-has_day)).inside, codes-count a.view.book)
 
 pub returns-clause-refusal : goal.returns-clause-refusal
 returns-clause-refusal c = none (goal.at.returns-clause-refusal c).Else-not-has_day
+
+pub invariant_of-result : goal.invariant_of-result
+invariant_of-result c =
+    let a = c.args in
+    record { asked = day-asked (book_seen a.view) a.account a.day (asked (book_seen a.view) a.account a.day (none c)) }

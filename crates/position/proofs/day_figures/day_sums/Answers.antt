@@ -20,44 +20,44 @@ use Rattle.position.proofs.day_figures.day_sums.Goals as goal
 use Rattle.position.proofs.day_figures.day_sums.Goals.{After-periods_at-periods, After-slot_sums-sums, Start}
 
 -- the day's periods
-day-periods : (c : After-periods_at-periods) → let a = c.args in c.periods_at-periods.result ≡ periods_at (time_in a.view.book).codes a.d
+day-periods : (c : After-periods_at-periods) → let day = c.args.day in c.periods_at-periods.result ≡ periods_at (time_in day.view.book).codes day.place
 day-periods c =
-    let a = c.args in
-    c.periods_at-periods.ensures ∙ ap (λ (t : Time). periods_at t.codes a.d) (clock-time a.view.book c.clock_of.ensures)
+    let day = c.args.day in
+    c.periods_at-periods.ensures ∙ ap (λ (t : Time). periods_at t.codes day.place) (clock-time day.view.book c.clock_of.ensures)
 
 pub loop-slot-init : goal.loop-slot-init
 loop-slot-init c = record { sold_so_far = gathered_none _ _; bought_so_far = gathered_none _ _ }
 
 -- a sound book's slots are few
-few : (s : Start) → length s.args.view.held.now ≤ 256
-few s = let v = s.args.view in slots-few v.book v.held.now v.side1.now v.side2.now s.args.d s.requires
-
-pub slot_day-at-requires : goal.slot_day-at-requires
-slot_day-at-requires c = (c.loop-slot-test.true, omega (arith, c.loop-slot-test.true, few (goal.at.slot_day-at-requires c).Start))
+few : (s : Start) → length s.args.day.view.held.now ≤ 256
+few s =
+    let day = s.args.day in
+    let v = day.view in
+    slots-few v.book v.held.now v.side1.now v.side2.now day.place day.asked
 
 pub slot_sums-sums-requires : goal.slot_sums-sums-requires
 slot_sums-sums-requires c =
     let a = c.args in
-    let v = a.view in
+    let v = a.day.view in
     let periods = c.periods_at-periods.result in
-    let short : periods ≤ 50 = omega (arith, day-periods (goal.at.slot_sums-sums-requires c).After-periods_at-periods, periods-le (time_in v.book).codes a.d) in
-    (day-inside v.book v.held.now v.side1.now v.side2.now a.d c.requires c.loop-slot.slot c.slot_day-at.result.first periods c.loop-slot-test.true c.slot_day-at.ensures.1 short, short)
+    let short : periods ≤ 50 = omega (arith, day-periods (goal.at.slot_sums-sums-requires c).After-periods_at-periods, periods-le (time_in v.book).codes a.day.place) in
+    (day-inside v.book v.held.now v.side1.now v.side2.now a.day.place a.day.asked c.loop-slot.slot c.slot_day-at.result.first periods c.loop-slot-test.true c.slot_day-at.ensures.1 short, short)
 
 -- a turn: the slot's parts
 module _ (c : After-slot_sums-sums) where
   abbrev sums : Bool → ℕ → ℤ
   sums below k =
       let a = c.args in
-      sum_belowℤ c.periods_at-periods.result (λ (p : ℕ). part_of below (counted (book_seen a.view) a.account a.d (suc p) k))
+      sum_belowℤ c.periods_at-periods.result (λ (p : ℕ). part_of below (counted (book_seen a.day.view) a.account a.day.place (suc p) k))
 
   part : (below : Bool) → let a = c.args in
-      slot_part below (row_of c.slot_day-at.result.origin) a.account a.view.side1.now a.view.side2.now c.slot_day-at.result.first c.periods_at-periods.result
+      slot_part below (row_of c.slot_day-at.result.origin) a.account a.day.view.side1.now a.day.view.side2.now c.slot_day-at.result.first c.periods_at-periods.result
       ≡ sums below c.loop-slot.slot
   part below =
       let a = c.args in
-      let v = a.view in
+      let v = a.day.view in
       let slot = c.slot_day-at in
-      slot-parts v.book v.held.now v.side1.now v.side2.now a.account a.d c.loop-slot.slot c.periods_at-periods.result below (row_of slot.result.origin) slot.result.first slot.ensures.0 slot.ensures.1
+      slot-parts v.book v.held.now v.side1.now v.side2.now a.account a.day.place c.loop-slot.slot c.periods_at-periods.result below (row_of slot.result.origin) slot.result.first slot.ensures.0 slot.ensures.1
 
   sold-term : c.slot_sums-sums.result.sold ≡ sums false c.loop-slot.slot
   sold-term = c.slot_sums-sums.ensures.sold-is ∙ part false
@@ -95,7 +95,7 @@ pub returns : goal.returns
 unfolding day_sum
 returns c =
     let l = c.loop-slot in
-    let e : l.slot ≡ length c.args.view.held.now = omega arith in
+    let e : l.slot ≡ length c.args.day.view.held.now = omega arith in
     let sold = l.invariant.sold_so_far in
     let bought = l.invariant.bought_so_far in
     record {

@@ -10,6 +10,6 @@ use Rattle.position.proofs.day_figures.day_sums.Given as goal
 
 abbrev pub invariant-loop-slot : goal.invariant-loop-slot
 invariant-loop-slot l = record {
-  sold_so_far : Gathered l.slot 107374182400 (λ (k : ℕ). sum_belowℤ l.periods (λ (p : ℕ). part_of false (counted (book_seen l.fn.view) l.account l.d (suc p) k))) l.sold;
-  bought_so_far : Gathered l.slot 107374182400 (λ (k : ℕ). sum_belowℤ l.periods (λ (p : ℕ). part_of true (counted (book_seen l.fn.view) l.account l.d (suc p) k))) l.bought;
+  sold_so_far : Gathered l.slot 107374182400 (λ (k : ℕ). sum_belowℤ l.periods (λ (p : ℕ). part_of false (counted (book_seen l.fn.day.view) l.account l.fn.day.place (suc p) k))) l.sold;
+  bought_so_far : Gathered l.slot 107374182400 (λ (k : ℕ). sum_belowℤ l.periods (λ (p : ℕ). part_of true (counted (book_seen l.fn.day.view) l.account l.fn.day.place (suc p) k))) l.bought;
 }

@@ -5,4 +5,4 @@ use Rattle.position.proofs.DayLaws.{sums_below}
 use Rattle.position.proofs.totals.store_totals.Given as goal
 
 abbrev pub invariant-loop-slot : goal.invariant-loop-slot
-invariant-loop-slot l = let v = l.fn.view in l.out ≡ on_front l.periods (sums_below v.book v.held.now v.side1.now v.side2.now l.account l.d l.slot) l.initial.out
+invariant-loop-slot l = let day = l.fn.day in let v = day.view in l.out ≡ on_front l.periods (sums_below v.book v.held.now v.side1.now v.side2.now l.account day.place l.slot) l.initial.out
