@@ -8,11 +8,11 @@ use Rattle.meaning.specs.Notifications.{states_at}
 use Rattle.messages.specs.Structs.{notification_of}
 use Rattle.book.specs.Structs.{book_of}
 use Rattle.notification_kinds.specs.Kinds.{from_first}
-use Rattle.notification_kinds.proofs.states_from.Given as goal
+use Rattle.notification_kinds.proofs.Question.states_from.Given as goal
 
 abbrev pub invariant-loop-p : goal.invariant-loop-p
 invariant-loop-p l =
-    some_below l.p (λ (q : ℕ). states_at (book_of l.view.book [] l.view.side1.now l.view.side2.now) (notification_of l.n) l.s l.d (suc q)) ≡ false
+    some_below l.p (λ (q : ℕ). states_at (book_of l.self.view.book [] l.self.view.side1.now l.self.view.side2.now) (notification_of l.self.notification) l.s l.d (suc q)) ≡ false
 
 abbrev pub invariant-loop-d : goal.invariant-loop-d
-invariant-loop-d l = some_below l.d (from_first (book_of l.view.book [] l.view.side1.now l.view.side2.now) (notification_of l.n) l.s) ≡ false
+invariant-loop-d l = some_below l.d (from_first (book_of l.self.view.book [] l.self.view.side1.now l.self.view.side2.now) (notification_of l.self.notification) l.s) ≡ false

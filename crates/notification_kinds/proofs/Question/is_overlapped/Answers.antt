@@ -2,33 +2,21 @@
 use mathlib.Core.Path.{sym, ap, ◌∙◌}
 use Prim.Native.Nat.{ℕ, ◌-◌, ◌≤◌, ◌<◌}
 use native.Mathlib.Omega.{arith}
-use lib.ListN.{length, get_or}
+use lib.ListN.{length}
 use Rattle.words.specs.Below.{some_below}
 use Rattle.laws.proofs.Below.{some-none, some-hit}
 use Rattle.meaning.specs.Time.{gates_before}
 use Rattle.meaning.specs.Notifications.{overlaps}
 use Rattle.messages.specs.Structs.{notification_of}
-use Rattle.setups.specs.Structs.{no_authorisation}
 use Rattle.setups.proofs.SetupHeld.{codes-own}
 use Rattle.book.specs.Structs.{book_seen, time_in}
-use Rattle.book.proofs.StateLaws.{place-few}
 use Rattle.notification_kinds.specs.Kinds.{periods_within}
-use Rattle.notification_kinds.proofs.KindLaws.{some-keep, some-upto, on_period, slot-skip, slot-miss, slot-hit, day-miss, day-hit, closed-miss, open-states, within-few, slot-inside, place_inside}
-use Rattle.notification_kinds.proofs.is_overlapped.Goals as goal
-use Rattle.notification_kinds.proofs.is_overlapped.Goals.{then-is_other+else-loop-d-test, else-is_other}
+use Rattle.notification_kinds.proofs.KindLaws.{some-keep, some-upto, on_period, slot-skip, slot-miss, slot-hit, day-miss, day-hit, closed-miss, open-states, within-few, place_inside}
+use Rattle.notification_kinds.proofs.Question.is_overlapped.Goals as goal
+use Rattle.notification_kinds.proofs.Question.is_overlapped.Goals.{then-is_other+else-loop-d-test, else-is_other}
 
 pub loop-s-init : goal.loop-s-init
 loop-s-init c = some-none _
-
-pub offset_bounds-b-origin_place : goal.offset_bounds-b-origin_place
-offset_bounds-b-origin_place c = omega (arith, place-few _ c.origin_place.ensures)
-
-pub bounds-b-origin_place : goal.bounds-b-origin_place
-bounds-b-origin_place c = omega (arith, place-few _ c.origin_place.ensures)
-
-pub is_other-requires : goal.is_other-requires
-is_other-requires c =
-    (ap (λ (k : ℕ). get_or c.args.view.book.setup.rows k no_authorisation) c.origin_place.ensures, c.requires.1)
 
 pub loop-d-init : goal.loop-d-init
 loop-d-init c =
@@ -36,10 +24,10 @@ loop-d-init c =
 
 pub loop-p-init : goal.loop-p-init
 loop-p-init c =
-    let a = c.args in
-    let v = a.view in
+    let q = c.args.self.now in
+    let v = q.view in
     let m = book_seen v in
-    let n = notification_of a.n in
+    let n = notification_of q.notification in
     let s = c.loop-s.s in
     let d = c.loop-d.d in
     (omega arith, ap (λ (k : ℕ). some_below k (on_period m n s d)) c.first_open-first.ensures ∙ closed-miss m n s d)
@@ -47,35 +35,32 @@ loop-p-init c =
 pub states_at-requires : goal.states_at-requires
 unfolding notification_of
 states_at-requires c =
-    let a = c.args in
-    let v = a.view in
-    let n = notification_of a.n in
+    let q = c.args.self.now in
+    let v = q.view in
+    let n = notification_of q.notification in
     let s = c.loop-s.s in
     let d = c.loop-d.d in
     let p = c.loop-p.p in
     let few : p < 50 = omega (arith, c.loop-p-test.true, c.periods_within-periods.ensures, within-few (time_in v.book) n.first n.last d) in
-    place_inside v.book v.side1.now v.side2.now s d p
-    (slot-inside v.book v.held.now v.side1.now v.side2.now s c.requires.0 c.loop-s-test.true)
-    c.loop-d-test.true
-    few
+    place_inside v.book v.held.now v.side1.now v.side2.now s d p q.fits c.loop-s-test.true c.loop-d-test.true few
 
 pub loop-p-preserved : goal.loop-p-preserved
 loop-p-preserved c =
-    let a = c.args in
-    let v = a.view in
+    let q = c.args.self.now in
+    let v = q.view in
     let d = c.loop-d.d in
     let p = c.loop-p.p in
     let l : v.book.closed - gates_before (time_in v.book).codes d ≤ p = omega (arith, c.first_open-first.ensures, c.loop-p.invariant.0) in
-    let stated = open-states v.book a.n a.mine c.requires.1 c.writes_side1-w1.ensures c.writes_side2-w2.ensures v.held.now v.side1.now v.side2.now c.loop-s.s d p c.states_at.ensures l in
+    let stated = open-states v.book q.notification q.row q.is_row c.writes_side1-w1.ensures c.writes_side2-w2.ensures v.held.now v.side1.now v.side2.now c.loop-s.s d p c.states_at.ensures l in
     (omega (arith, c.loop-p.invariant.0), some-keep _ _ c.loop-p.invariant.1 (stated ∙ c.if-states_at.false))
 
 pub loop-d-preserved : goal.loop-d-preserved
 unfolding notification_of
 loop-d-preserved c =
-    let a = c.args in
-    let v = a.view in
+    let q = c.args.self.now in
+    let v = q.view in
     let m = book_seen v in
-    let n = notification_of a.n in
+    let n = notification_of q.notification in
     let d = c.loop-d.d in
     let p = c.loop-p.p in
     let l : periods_within (time_in v.book) n.first n.last d ≤ p = rw (← c.periods_within-periods.ensures) c.loop-p-test.false in
@@ -83,10 +68,10 @@ loop-d-preserved c =
 
 pub loop-s-preserved : goal.loop-s-preserved
 loop-s-preserved c =
-    let a = c.args in
-    let v = a.view in
+    let q = c.args.self.now in
+    let v = q.view in
     let m = book_seen v in
-    let n = notification_of a.n in
+    let n = notification_of q.notification in
     let s = c.loop-s.s in
     elim c.if-is_other.branch [
       | then-is_other+else-loop-d-test w ↦
@@ -100,17 +85,17 @@ returns c = sym (some-upto _ _ _ c.loop-s.invariant c.loop-s-test.false)
 pub returns-then-states_at : goal.returns-then-states_at
 unfolding notification_of
 returns-then-states_at c =
-    let a = c.args in
-    let v = a.view in
+    let q = c.args.self.now in
+    let v = q.view in
     let m = book_seen v in
-    let n = notification_of a.n in
+    let n = notification_of q.notification in
     let s = c.loop-s.s in
     let d = c.loop-d.d in
     let p = c.loop-p.p in
     let l : v.book.closed - gates_before (time_in v.book).codes d ≤ p = omega (arith, c.first_open-first.ensures, c.loop-p.invariant.0) in
-    let stated = open-states v.book a.n a.mine c.requires.1 c.writes_side1-w1.ensures c.writes_side2-w2.ensures v.held.now v.side1.now v.side2.now s d p c.states_at.ensures l in
-    let q : p < periods_within (time_in v.book) n.first n.last d = rw (← c.periods_within-periods.ensures) c.loop-p-test.true in
+    let stated = open-states v.book q.notification q.row q.is_row c.writes_side1-w1.ensures c.writes_side2-w2.ensures v.held.now v.side1.now v.side2.now s d p c.states_at.ensures l in
+    let k : p < periods_within (time_in v.book) n.first n.last d = rw (← c.periods_within-periods.ensures) c.loop-p-test.true in
     sym
     (some-hit (length v.held.now) (overlaps m n) s c.loop-s-test.true
     (slot-hit m n s d (sym c.is_other.ensures ∙ c.if-is_other.true) (rw (codes-own v.book.setup.days v.book.setup.codes) c.loop-d-test.true)
-    (day-hit m n s d p q (stated ∙ c.if-states_at.true))))
+    (day-hit m n s d p k (stated ∙ c.if-states_at.true))))

@@ -7,13 +7,13 @@ use Rattle.meaning.specs.Notifications.{overlaps}
 use Rattle.messages.specs.Structs.{notification_of}
 use Rattle.book.specs.Structs.{book_seen}
 use Rattle.notification_kinds.proofs.KindLaws.{on_period, on_day}
-use Rattle.notification_kinds.proofs.is_overlapped.Given as goal
+use Rattle.notification_kinds.proofs.Question.is_overlapped.Given as goal
 
 abbrev pub invariant-loop-p : goal.invariant-loop-p
-invariant-loop-p l = (l.first ≤ l.p) × (some_below l.p (on_period (book_seen l.view) (notification_of l.n) l.s l.d) ≡ false)
+invariant-loop-p l = (l.first ≤ l.p) × (some_below l.p (on_period (book_seen l.self.view) (notification_of l.self.notification) l.s l.d) ≡ false)
 
 abbrev pub invariant-loop-d : goal.invariant-loop-d
-invariant-loop-d l = some_below l.d (on_day (book_seen l.view) (notification_of l.n) l.s) ≡ false
+invariant-loop-d l = some_below l.d (on_day (book_seen l.self.view) (notification_of l.self.notification) l.s) ≡ false
 
 abbrev pub invariant-loop-s : goal.invariant-loop-s
-invariant-loop-s l = some_below l.s (overlaps (book_seen l.view) (notification_of l.n)) ≡ false
+invariant-loop-s l = some_below l.s (overlaps (book_seen l.self.view) (notification_of l.self.notification)) ≡ false
