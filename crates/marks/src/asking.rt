@@ -9,7 +9,7 @@ ghost use Rattle.meaning.specs.Ledgers.{identifier_of};
 ghost use Rattle.book.specs.Structs.{time_in, rows_in, book_seen};
 ghost use Rattle.marks.specs.Marks.{asking_rules};
 
-use crate::rows;
+use crate::rows::BookDay;
 use book::{BookView, state};
 use limits::refusals::Refusal;
 
@@ -25,7 +25,7 @@ pub(crate) fn is_period(b: book::Book, day: u16, period: u8) -> bool
     ensures { result ≡ is_period (time_in b) day period }
 {
     let c = state::clock_of(b);
-    clock::has_day(c, day) && clock::is_period_at(c, rows::day_of(b, day), period)
+    clock::has_day(c, day) && clock::is_period_at(c, BookDay { book: b, day }.place(), period)
 }
 
 // NotSound, NotHeld and NoSuchAccount: the refusals that speak of no day.

@@ -9,7 +9,8 @@ ghost use Rattle.book.specs.Structs.{book_seen};
 ghost use Rattle.bar.specs.Figures.{case_of, first_of, second_of};
 ghost use Rattle.marks.specs.Marks.{marked_of, marked, day_mark_rules, day_marked, bar_from};
 
-use crate::{asking, rows};
+use crate::asking;
+use crate::rows::BookDay;
 use bar::Bar;
 use book::{BookView, state};
 use limits::refusals::Refusal;
@@ -32,7 +33,11 @@ pub fn mark(
         return Err(Refusal::NoSuchDay);
     }
     let slot = ledger::slots::slot_of(view.held, originator, reference);
-    let place = rows::index_of(view.book, slot, day, period);
+    let asked = BookDay {
+        book: view.book,
+        day,
+    };
+    let place = asked.index_of(slot, period);
     let v = ledger::volume_at(view.side1, place);
     let w = ledger::volume_at(view.side2, place);
     let row = state::row_of(view.book, originator as u32);
@@ -87,12 +92,16 @@ pub fn day_marks(
     if !clock::has_day(state::clock_of(view.book), day) {
         return Err(Refusal::NoSuchDay);
     }
-    let periods = rows::periods_on(view.book, day) as usize;
+    let asked = BookDay {
+        book: view.book,
+        day,
+    };
+    let periods = asked.periods() as usize;
     if (cases.len() < periods) | (firsts.len() < periods) | (seconds.len() < periods) {
         return Err(Refusal::NoRoom);
     }
     let slot = ledger::slots::slot_of(view.held, originator, reference);
-    let start = rows::index_of(view.book, slot, day, 1);
+    let start = asked.index_of(slot, 1);
     let row = state::row_of(view.book, originator as u32);
     write_marks(
         view.side1, view.side2, start, periods, row, account, cases, firsts, seconds,

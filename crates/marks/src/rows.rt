@@ -11,33 +11,39 @@ ghost use Rattle.book.specs.Structs.{time_in, book_seen};
 ghost use Rattle.marks.specs.Rows.{row_placed, row_place, table_of, part_at};
 
 use crate::RowPart;
-use book::{BookView, state};
+use book::{Book, BookView, state};
 use limits::refusals::Refusal;
 
-// The place in the book of one of its days.
-pub(crate) fn day_of(b: book::Book, day: u16) -> u8
-    requires { has_day (time_in b) day ≡ true }
-    ensures { result ≡ day_of (time_in b) day }
-{
-    (day - b.setup.first) as u8
+// A day of the book, by its number.
+#[derive(Clone, Copy)]
+pub(crate) struct BookDay {
+    pub book: Book,
+    pub day: u16,
+    ghost of_book: { has_day (time_in book) day ≡ true },
 }
 
-// The periods of one of the book's days.
-pub(crate) fn periods_on(b: book::Book, day: u16) -> u8
-    requires { has_day (time_in b) day ≡ true }
-    ensures { result ≡ periods_at (time_in b).codes (day_of (time_in b) day) }
-{
-    let d = day_of(b, day);
-    clock::periods_at(state::clock_of(b), d)
-}
+impl BookDay {
+    // Its place in the book.
+    pub(crate) fn place(self) -> u8
+        ensures { result ≡ day_of (time_in self.book) self.day }
+    {
+        (self.day - self.book.setup.first) as u8
+    }
 
-// The place of a slot's period in a side's table.
-pub(crate) fn index_of(b: book::Book, slot: usize, day: u16, period: u8) -> usize
-    requires { (has_day (time_in b) day ≡ true) × (slot < 256) × (1 ≤ period) }
-    ensures { result ≡ index (days (time_in b)) slot (day_of (time_in b) day) period }
-{
-    let d = day_of(b, day);
-    ledger::place_of(slot as u8, b.setup.days, d, period - 1)
+    // Its periods.
+    pub(crate) fn periods(self) -> u8
+        ensures { result ≡ periods_at (time_in self.book).codes (day_of (time_in self.book) self.day) }
+    {
+        clock::periods_at(state::clock_of(self.book), self.place())
+    }
+
+    // The place of a slot's period in a side's table.
+    pub(crate) fn index_of(self, slot: usize, period: u8) -> usize
+        requires { (slot < 256) × (1 ≤ period) }
+        ensures { result ≡ index (days (time_in self.book)) slot (day_of (time_in self.book) self.day) period }
+    {
+        ledger::place_of(slot as u8, self.book.setup.days, self.place(), period - 1)
+    }
 }
 
 // Whether a row is refused, and why.
@@ -93,7 +99,11 @@ pub fn row_place(
 {
     row_refusal(view, originator, reference, day, side)?;
     let slot = ledger::slots::slot_of(view.held, originator, reference);
-    let start = index_of(view.book, slot, day, 1);
-    let length = periods_on(view.book, day) as usize;
+    let asked = BookDay {
+        book: view.book,
+        day,
+    };
+    let start = asked.index_of(slot, 1);
+    let length = asked.periods() as usize;
     Ok(RowPart { start, length })
 }

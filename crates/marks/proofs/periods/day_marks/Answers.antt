@@ -29,7 +29,7 @@ use Rattle.marks.proofs.MarkLaws.{Asks, asks}
 use Rattle.marks.proofs.MarkPlaces.{day-marks-at}
 use Rattle.marks.proofs.DayMarkLaws.{day_answer, periods_on, no_room, day-earlier, day-none, day-no-room, day-done, rooms, day-refused, day-written}
 use Rattle.marks.proofs.periods.day_marks.Goals as goal
-use Rattle.marks.proofs.periods.day_marks.Goals.{After-has_day, After-index_of-start, After-periods_on-periods, After-row_of-row, Else-cases-periods, Else-not-has_day, In_ok-asking_refusal, Start}
+use Rattle.marks.proofs.periods.day_marks.Goals.{After-has_day, After-index_of-start, After-periods-periods, After-row_of-row, Else-cases-periods, Else-not-has_day, In_ok-asking_refusal, Start}
 
 module _ (s : Start) where
   abbrev identifier : ℕ
@@ -84,23 +84,23 @@ has c =
 there : (c : Else-not-has_day) → let a = c.args in has_day (time_in a.view.book) a.day ≡ true
 there c = sym (has (goal.at.Else-not-has_day c).After-has_day) ∙ c.if-not-has_day.false
 
-room : (c : After-periods_on-periods) → shorter (goal.at.After-periods_on-periods c).Start c.periods_on-periods.result ≡ too_short (goal.at.After-periods_on-periods c).Start
+room : (c : After-periods-periods) → shorter (goal.at.After-periods-periods c).Start c.periods-periods.result ≡ too_short (goal.at.After-periods-periods c).Start
 room c =
-    ap (shorter (goal.at.After-periods_on-periods c).Start) c.periods_on-periods.ensures
+    ap (shorter (goal.at.After-periods-periods c).Start) c.periods-periods.ensures
 
 -- past the refusals
 module _ (c : Else-cases-periods) where
-  abbrev counted : After-periods_on-periods
-  counted = (goal.at.Else-cases-periods c).After-periods_on-periods
+  abbrev counted : After-periods-periods
+  counted = (goal.at.Else-cases-periods c).After-periods-periods
 
   abbrev asked : In_ok-asking_refusal
-  asked = (goal.at.After-periods_on-periods counted).In_ok-asking_refusal
+  asked = (goal.at.After-periods-periods counted).In_ok-asking_refusal
 
   abbrev from : Start
   from = (goal.at.In_ok-asking_refusal asked).Start
 
   of-book : has_day (time_in from.args.view.book) from.args.day ≡ true
-  of-book = there (goal.at.After-periods_on-periods counted).Else-not-has_day
+  of-book = there (goal.at.After-periods-periods counted).Else-not-has_day
 
   enough : too_short from ≡ false
   enough = sym (room counted) ∙ c.if-cases-periods.false
@@ -139,9 +139,9 @@ module _ (c : After-row_of-row) where
       begun.index_of-start.result (begins begun) (allowed (asked passed)) (of-book passed) p l
 
   written : {A : Type 0} (value : Bar → A) (buffer : List A) (d : A)
-      → on_front (counted passed).periods_on-periods.result (λ (p : ℕ) (old : A). value (bars p)) buffer ≡ after first value (the_answer first) buffer
+      → on_front (counted passed).periods-periods.result (λ (p : ℕ) (old : A). value (bars p)) buffer ≡ after first value (the_answer first) buffer
   written {A} value buffer d =
-      ap (λ (n : ℕ). on_front n (λ (p : ℕ) (old : A). value (bars p)) buffer) (counted passed).periods_on-periods.ensures
+      ap (λ (n : ℕ). on_front n (λ (p : ℕ) (old : A). value (bars p)) buffer) (counted passed).periods-periods.ensures
       ∙ day-written value (whole first) (identifier first) first.args.account first.args.day buffer bars d bars-are
       ∙ ap (λ (n : ℕ). after first value n buffer) (done passed)
 
@@ -162,26 +162,26 @@ returns-then-not-has_day c =
     stopped (goal.at.returns-then-not-has_day c).Start 16 (λ z. omega arith)
     (day-none (whole (goal.at.returns-then-not-has_day c).Start) (identifier (goal.at.returns-then-not-has_day c).Start) a.account a.day (length a.cases.now) (length a.firsts.now) (length a.seconds.now) (allowed (goal.at.returns-then-not-has_day c).In_ok-asking_refusal) (sym (has (goal.at.returns-then-not-has_day c).After-has_day) ∙ c.if-not-has_day.true))
 
-pub periods_on-periods-requires : goal.periods_on-periods-requires
-periods_on-periods-requires c = there (goal.at.periods_on-periods-requires c).Else-not-has_day
+pub invariant_of-asked : goal.invariant_of-asked
+invariant_of-asked c = record { of_book = there (goal.at.invariant_of-asked c).Else-not-has_day }
 
 pub returns-then-cases-periods : goal.returns-then-cases-periods
 returns-then-cases-periods c =
     let a = c.args in
     stopped (goal.at.returns-then-cases-periods c).Start 24 (λ z. omega arith)
-    (day-no-room (whole (goal.at.returns-then-cases-periods c).Start) (identifier (goal.at.returns-then-cases-periods c).Start) a.account a.day (length a.cases.now) (length a.firsts.now) (length a.seconds.now) (allowed (goal.at.returns-then-cases-periods c).In_ok-asking_refusal) (there (goal.at.returns-then-cases-periods c).Else-not-has_day) (sym (room (goal.at.returns-then-cases-periods c).After-periods_on-periods) ∙ c.if-cases-periods.true))
+    (day-no-room (whole (goal.at.returns-then-cases-periods c).Start) (identifier (goal.at.returns-then-cases-periods c).Start) a.account a.day (length a.cases.now) (length a.firsts.now) (length a.seconds.now) (allowed (goal.at.returns-then-cases-periods c).In_ok-asking_refusal) (there (goal.at.returns-then-cases-periods c).Else-not-has_day) (sym (room (goal.at.returns-then-cases-periods c).After-periods-periods) ∙ c.if-cases-periods.true))
 
 pub index_of-start-requires : goal.index_of-start-requires
 index_of-start-requires c =
     let a = (from (goal.at.index_of-start-requires c).Else-cases-periods).args in
     let few = slot-few a.view.book a.view.held.now a.view.side1.now a.view.side2.now (identifier (from (goal.at.index_of-start-requires c).Else-cases-periods)) a.day (shown (goal.at.index_of-start-requires c).Else-cases-periods).is-sound (shown (goal.at.index_of-start-requires c).Else-cases-periods).is-held in
-    (of-book (goal.at.index_of-start-requires c).Else-cases-periods, rw c.slot_of-slot.ensures few, omega arith)
+    (rw c.slot_of-slot.ensures few, omega arith)
 
 pub write_marks-requires : goal.write_marks-requires
 write_marks-requires c =
     let p = passed (goal.at.write_marks-requires c).After-row_of-row in
     let a = (from p).args in
-    let n = (counted p).periods_on-periods.ensures in
+    let n = (counted p).periods-periods.ensures in
     let few = row-few a.view.book a.view.held.now a.view.side1.now a.view.side2.now (identifier (from p)) a.day (shown p).is-sound (shown p).is-held (of-book p) in
     let fit = rooms (whole (from p)) (identifier (from p)) a.account a.day (length a.cases.now) (length a.firsts.now) (length a.seconds.now) (enough p) in
     (omega (arith, few, begins (begun (goal.at.write_marks-requires c).After-row_of-row), n), omega (arith, fit.0, n), omega (arith, fit.1, n), omega (arith, fit.2, n))

@@ -67,11 +67,15 @@ returns-then-not-is_period c =
     marked_refused (whole at.Start) (identifier at.Start) a.account a.day a.period 16 (λ z. omega arith)
     (mark-no-period (whole at.Start) (identifier at.Start) a.account a.day a.period (allowed at.In_ok-asking_refusal) (sym c.is_period.ensures ∙ c.if-not-is_period.true))
 
+pub invariant_of-asked : goal.invariant_of-asked
+invariant_of-asked c =
+    let a = c.args in
+    record { of_book = period-day a.view.book a.day a.period (is-a-period (goal.at.invariant_of-asked c).Else-not-is_period) }
+
 pub index_of-place-requires : goal.index_of-place-requires
 index_of-place-requires c =
     let a = c.args in
     let w = asks (whole (goal.at.index_of-place-requires c).Start) (identifier (goal.at.index_of-place-requires c).Start) a.account (allowed (goal.at.index_of-place-requires c).In_ok-asking_refusal) in (
-      period-day a.view.book a.day a.period (is-a-period (goal.at.index_of-place-requires c).Else-not-is_period),
       rw c.slot_of-slot.ensures (slot-few a.view.book a.view.held.now a.view.side1.now a.view.side2.now (identifier (goal.at.index_of-place-requires c).Start) a.day w.is-sound w.is-held),
       (is-period-on (time_in a.view.book) a.day a.period (is-a-period (goal.at.index_of-place-requires c).Else-not-is_period)).1.low,
     )

@@ -13,7 +13,7 @@ use Rattle.meaning.specs.Ledgers.{identifier_of, one, two}
 use Rattle.marks.proofs.RowLaws.{start, row_inside, row_answer, Shown, shown, slot-few}
 use Rattle.marks.proofs.PlaceLaws.{placed, place-refused, place_at_lem}
 use Rattle.marks.proofs.rows.row_place.Goals as goal
-use Rattle.marks.proofs.rows.row_place.Goals.{After-periods_on-length, After-slot_of-slot, In_ok-row_refusal, Start}
+use Rattle.marks.proofs.rows.row_place.Goals.{After-periods-length, After-slot_of-slot, In_ok-row_refusal, Start}
 
 module _ (s : Start) where
   abbrev identifier : ℕ
@@ -54,14 +54,14 @@ returns-in_err-row_refusal-clause-placed c =
     rw same (placed v.book v.held.now v.side1.now v.side2.now (identifier at) a.day a.side (row_placed (Err refusal)) (rw asks (sym refused)))
 
 pub index_of-start-requires : goal.index_of-start-requires
-index_of-start-requires c = ((asked (goal.at.index_of-start-requires c).In_ok-row_refusal).of-book, few-slots (goal.at.index_of-start-requires c).After-slot_of-slot, omega arith)
+index_of-start-requires c = (few-slots (goal.at.index_of-start-requires c).After-slot_of-slot, omega arith)
 
-pub periods_on-length-requires : goal.periods_on-length-requires
-periods_on-length-requires c = (asked (goal.at.periods_on-length-requires c).In_ok-row_refusal).of-book
+pub invariant_of-asked : goal.invariant_of-asked
+invariant_of-asked c = record { of_book = (asked (goal.at.invariant_of-asked c).In_ok-row_refusal).of-book }
 
 -- the place, as the code finds it
-module _ (c : After-periods_on-length) where
-  begins : c.index_of-start.result ≡ the_start (goal.at.After-periods_on-length c).Start
+module _ (c : After-periods-length) where
+  begins : c.index_of-start.result ≡ the_start (goal.at.After-periods-length c).Start
   begins = rw c.slot_of-slot.ensures at c.index_of-start.ensures
 
 pub returns-clause-placed : goal.returns-clause-placed
@@ -70,9 +70,9 @@ returns-clause-placed c =
     let v = a.view in
     let at = goal.at.returns-clause-placed c in
     let from = c.index_of-start.result in
-    let long = c.periods_on-length.result in
+    let long = c.periods-length.result in
     placed v.book v.held.now v.side1.now v.side2.now (identifier at.Start) a.day a.side (record { answer = 0; start = from; length = long })
-    (place_at_lem v.book v.held.now v.side1.now v.side2.now (identifier at.Start) a.day a.side from long (allowed at.In_ok-row_refusal) (begins at.After-periods_on-length) c.periods_on-length.ensures)
+    (place_at_lem v.book v.held.now v.side1.now v.side2.now (identifier at.Start) a.day a.side from long (allowed at.In_ok-row_refusal) (begins at.After-periods-length) c.periods-length.ensures)
 
 pub returns-clause-inside : goal.returns-clause-inside
 returns-clause-inside c =
@@ -82,5 +82,5 @@ returns-clause-inside c =
     let w = asked at.In_ok-row_refusal in
     let inside = row_inside v.book v.held.now v.side1.now v.side2.now (identifier at.Start) a.day w.is-sound w.is-held w.of-book in
     on (eqb a.side 1)
-    (λ e. rw e (omega (arith, inside one, begins at.After-periods_on-length, c.periods_on-length.ensures)))
-    (λ e. rw e (omega (arith, inside two, begins at.After-periods_on-length, c.periods_on-length.ensures)))
+    (λ e. rw e (omega (arith, inside one, begins at.After-periods-length, c.periods-length.ensures)))
+    (λ e. rw e (omega (arith, inside two, begins at.After-periods-length, c.periods-length.ensures)))

@@ -3,11 +3,11 @@ use mathlib.Core.Path.{ap, ◌∙◌}
 use Rattle.meaning.specs.Time.{Time, periods_at}
 use Rattle.book.specs.Structs.{time_in}
 use Rattle.book.proofs.StateLaws.{clock-time}
-use Rattle.marks.proofs.rows.periods_on.Goals as goal
+use Rattle.marks.proofs.rows.BookDay.periods.Goals as goal
 
 pub returns : goal.returns
 returns c =
-    let b = c.args.b in
+    let b = c.args.self.book in
     c.periods_at.ensures
-    ∙ ap (λ (t : Time). periods_at t.codes c.day_of-d.result) (clock-time b c.clock_of.ensures)
-    ∙ ap (periods_at (time_in b).codes) c.day_of-d.ensures
+    ∙ ap (λ (t : Time). periods_at t.codes c.place.result) (clock-time b c.clock_of.ensures)
+    ∙ ap (periods_at (time_in b).codes) c.place.ensures
