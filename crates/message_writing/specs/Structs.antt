@@ -4,4 +4,3 @@ use Rattle.fields.specs.declared.WrittenBytes.{WrittenBytes}
 
 unfoldable pub message_written : Written → WrittenBytes
 message_written w = record { answer = w.answer; length = w.length }
-

@@ -28,10 +28,7 @@ pub extern "C" fn ghendufika_write_message(
 }
 
 #[unsafe(no_mangle)]
-pub extern "C" fn ghendufika_write_setup(
-    s: setups::Setup,
-    out: &mut [u8],
-) -> fields::WrittenBytes
+pub extern "C" fn ghendufika_write_setup(s: setups::Setup, out: &mut [u8]) -> fields::WrittenBytes
     ensures { (result ≡ setup_written (write_setup (setup_of s) out.old)) × (out.new ≡ (write_setup (setup_of s) out.old).out) }
 {
     setup_writing::write_setup(s, out).into()
