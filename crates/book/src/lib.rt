@@ -14,7 +14,8 @@ pub struct Book {
     pub closed: u16,
 }
 
-// A book beside its lent tables, as every question of it is asked. Where a call changes the tables, they are lent apart: a struct of `&mut`s needs a clause for each that it is still the same loan.
+// A book beside its lent tables, as every question of it is asked. Where a call changes the tables, they are lent apart: a struct of `&mut`s needs
+// a clause for each that it is still the same loan.
 #[derive(Clone, Copy)]
 pub struct BookView<'a> {
     pub book: Book,

@@ -1,4 +1,5 @@
-// "Opening closes no gate, holds no identifier and sets every place to the mark." The setup rules are 17 and 18. The tables that a call changes are lent apart (crate book, `BookView`).
+// "Opening closes no gate, holds no identifier and sets every place to the mark." The setup rules are 17 and 18. The tables that a call changes are
+// lent apart (crate book, `BookView`).
 ghost use Rattle.std.specs.Prelude.{◌≡◌, length, replicate};
 ghost use Rattle.words.specs.Rules.{answer};
 ghost use Rattle.limits.specs.Refusals.{answer_of};
@@ -12,7 +13,8 @@ use crate::{Book, Opened, OpenedPacked};
 use fields::AtFront;
 use limits::refusals::Refusal;
 
-// Whether this setup with so many slots and two lent tables of these lengths is refused, and why.
+// Whether this setup with so many slots and two lent tables of these lengths is refused, and why. The three numbers stay apart, here and where setups are
+// read, as C gives them.
 #[tactic(auto, unfolding(words::specs::Rules::answer, meaning::specs::Books::opening_rules))]
 pub fn opening_refusal(
     s: setups::Setup,

@@ -54,8 +54,8 @@ one_closed b = record { setup = b.setup; closed = b.closed + 1 }
 unfoldable pub gated : Book → ℕ → Gated
 gated b answer = record { answer = answer; book = if answer =? 0 then one_closed b else b }
 
--- what C is given of an outcome, here and below: with a refusal its number, and the book as it came. No two outcomes are seen as one struct:
--- proofs/Seen.antt.
+-- what C is given of an outcome (`gated_seen`, `notified_seen`, `applied_seen`, `ran_seen`): with a refusal its number, and the book as it came. No two
+-- outcomes are seen as one struct (proofs/Seen.antt).
 abbrev pub gated_seen : Book → Result Book Refusal → Gated
 gated_seen before (Ok book) = record { answer = 0; book = book }
 gated_seen before (Err refusal) = record { answer = number_of refusal; book = before }

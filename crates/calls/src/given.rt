@@ -5,6 +5,7 @@ ghost use Rattle.calls.specs.Answers.{kind_told, slot_told, gated_seen, notified
 use crate::{Accepted, Applied, AppliedAll, Done, Gated, Notified, Run};
 use book::Book;
 use fields::AtFront;
+use limits::kinds::number_found;
 use limits::refusals::Refusal;
 use message_checks::Fault;
 
@@ -47,10 +48,7 @@ impl From<Result<Accepted, Fault>> for Notified {
 fn kind_told(notification: Option<Accepted>) -> u8
     ensures { result ≡ kind_told notification }
 {
-    match notification {
-        Some(accepted) => accepted.kind.into(),
-        None => 0,
-    }
+    number_found(notification.map(|accepted| accepted.kind))
 }
 
 fn slot_told(notification: Option<Accepted>) -> u16

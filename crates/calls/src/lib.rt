@@ -62,7 +62,8 @@ pub struct Applied {
     pub book: book::Book,
 }
 
-// How many answers were given, each with its place, how many bytes used, and the book after. With a refusal the counts are 0 and the book is as it came.
+// How many answers were given, each with its place, how many bytes used, and the book after. With a refusal the counts are 0 and the book is as it
+// came.
 #[repr(C)]
 #[derive(Clone, Copy)]
 pub struct AppliedAll {

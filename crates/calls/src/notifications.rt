@@ -1,4 +1,5 @@
-// A notification: its refusals 1 to 14 in their order, its kind and slot, and what it writes (meaning, Notifications.antt and Messages.antt). The tables that a call changes are lent apart (crate book, `BookView`).
+// A notification: its refusals 1 to 14 in their order, its kind and slot, and what it writes (meaning, Notifications.antt and Messages.antt). The
+// tables that a call changes are lent apart (crate book, `BookView`).
 ghost use Rattle.std.specs.Prelude.{◌≡◌};
 ghost use Rattle.meaning.specs.Messages.{notification};
 ghost use Rattle.meaning.specs.Notifications.{notified};

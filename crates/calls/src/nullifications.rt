@@ -23,8 +23,8 @@ pub fn nullification_refusal(view: BookView<'_>, x: messages::Nullification) -> 
     message_checks::nullifications::judge_nullification(view.book, x)
 }
 
-// Both tables with the mark at the open places from its first day on, in each slot whose identifier is between the two accounts; a refusal leaves them
-// as they came.
+// Both tables with the mark at the open places from its first day on, in each slot whose identifier is between the two accounts; a refusal leaves
+// them as they came.
 pub fn nullify(
     b: Book,
     x: messages::Nullification,

@@ -1,4 +1,5 @@
-// A packed message done to a book, and a run of packed messages (meaning, PackedCalls.antt). The tables that a call changes are lent apart (crate book, `BookView`).
+// A packed message done to a book, and a run of packed messages (meaning, PackedCalls.antt). The tables that a call changes are lent apart (crate
+// book, `BookView`).
 ghost use Rattle.std.specs.Prelude.{true, ◌≡◌, ◌<◌, Ok, min, length, IfSome};
 ghost use Rattle.std.proofs.lemmas.List.Edits.{sets};
 ghost use Rattle.meaning.specs.Soundness.{sound};

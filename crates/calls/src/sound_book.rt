@@ -1,7 +1,7 @@
 // What a book that is known to be sound does with a message: the private core of every call. The tests of soundness are its callers'.
 // That the book is sound is asked by each function here: a type that held the fact would hold the tables too, which are lent as `&mut` (crate book,
 // `BookView`).
-ghost use Rattle.std.specs.Prelude.{true, ◌≡◌};
+ghost use Rattle.std.specs.Prelude.{true, ◌≡◌, None};
 ghost use Rattle.meaning.specs.Messages.{notification, nullification};
 ghost use Rattle.meaning.specs.Authorisations.{row_at};
 ghost use Rattle.meaning.specs.Soundness.{sound};
@@ -94,6 +94,16 @@ pub(crate) fn do_nullification(
     Ok(())
 }
 
+// What a message that is no notification did.
+fn untold(book: Book) -> Done
+    ensures { result ≡ record { notification = None; book = book } }
+{
+    Done {
+        notification: None,
+        book,
+    }
+}
+
 // A message by its kind. A fourth kind is refused by its own number, and so are those above it; a reader gives none.
 pub(crate) fn do_message(
     b: Book,
@@ -111,10 +121,7 @@ pub(crate) fn do_message(
     match kind {
         0 => {
             let book = gates::close_next(b)?;
-            Ok(Done {
-                notification: None,
-                book,
-            })
+            Ok(untold(book))
         }
         1 => {
             let accepted = do_notification(b, m.notification, held, side1, side2)?;
@@ -125,17 +132,11 @@ pub(crate) fn do_message(
         }
         2 => {
             do_nullification(b, m.nullification, held, side1, side2)?;
-            Ok(Done {
-                notification: None,
-                book: b,
-            })
+            Ok(untold(b))
         }
         _ => {
             layouts::kind_refusal(kind)?;
-            Ok(Done {
-                notification: None,
-                book: b,
-            })
+            Ok(untold(b))
         }
     }
 }

@@ -24,7 +24,8 @@ pub fn checked_opening_refusal(
     codes::calendar_refusal(s)
 }
 
-// The opened book, its lent tables emptied. A refusal leaves the three tables as they came; where nothing refuses the setup it is opened as any other.
+// The opened book, its lent tables emptied. A refusal leaves the three tables as they came; where nothing refuses the setup it is opened as any
+// other.
 pub fn open_checked(
     s: Setup,
     held: &mut [u32],

@@ -1,4 +1,5 @@
-// What a book shows of the positions in it ("Matching, totals, marks"): questions of a book by value and its lent tables, which change nothing.
+// What a book shows of the positions in it ("Matching, totals, marks"): questions of a book by value and its lent tables, which change nothing. An
+// identifier's originator and reference stay two parameters, as C gives them and a notification has them.
 #![tactic(auto)]
 
 ghost use Rattle.std.specs.Prelude.{◌≡◌};
@@ -6,7 +7,7 @@ ghost use Rattle.marks.specs.Rows.{row_placed};
 
 use limits::refusals::Refusal;
 
-pub mod rows; // rows.rt: the day's row of one side
+pub mod rows; // rows.rt: a day of the book, and its row of one side
 mod asking; // asking.rt: who asks for a mark, and for which period
 pub mod periods; // periods.rt: the mark of a period, and the marks of a whole day
 

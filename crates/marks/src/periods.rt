@@ -72,7 +72,7 @@ fn write_marks(
     }
 }
 
-// The marks of a whole day, a place a period: the case's number, and its two figures. A refusal changes no buffer.
+// The marks of a whole day, a place a period: the case's number, and its two figures, in three buffers, as C has them. A refusal changes no buffer.
 pub fn day_marks(
     view: BookView<'_>,
     originator: u8,

@@ -1,4 +1,5 @@
-// What can be wrong with a notification (meaning, Notifications.antt): refusals 2 to 11, which need no table, for any book, sound or not; and 12 to 14.
+// What can be wrong with a notification (meaning, Notifications.antt): refusals 2 to 11, which need no table, for any book, sound or not; and 12 to
+// 14.
 ghost use Rattle.std.specs.Prelude.{not, ◌||◌, ◌≡◌, min};
 ghost use Rattle.words.specs.Tests.{◌=?◌, between, within};
 ghost use Rattle.words.specs.Rules.{answer, outcome};
@@ -18,8 +19,8 @@ use limits::refusals::Refusal;
 
 const LAST_PLACE: u16 = 255;
 
-// "key wrong, or agent is neither of its two". The row of its authorisation is handed over, here and below, since reading it out of a book copies all of
-// them.
+// "key wrong, or agent is neither of its two". The row of its authorisation is handed over, here and below, since reading it out of a book copies
+// all of them.
 fn key_or_agent_wrong(row: setups::Authorisation, key: u16, agent: u8) -> bool
     ensures { result ≡ not (key =? row.key) || not (agent =? row.agent1 || agent =? row.agent2) }
 {
@@ -112,7 +113,7 @@ fn first_wrong_volume(n: messages::Notification) -> u8
     n.count
 }
 
-// 3 to 6: its authorisation is one of the book's, and it may be sent under it today.
+// 3 to 6: its authorisation is one of the book's, and it may be sent under it today. That day is found once, and handed to this and the next.
 fn authorisation_refusal(b: Book, n: messages::Notification, today: u32) -> Result<(), Refusal>
     requires { today ≡ current_day (time_in b) }
     ensures { answer_of result ≡ answer (authorisation_rules (setting_in b) (notification_of n)) }
@@ -186,8 +187,8 @@ pub fn checks_outcome(b: Book, n: messages::Notification) -> Result<(), Fault>
     entries_outcome(b, n)
 }
 
-// 12, 13 and 14, of its kind, its authorisation's type, its slot and the number of slots. The kind comes by its number, as the rules have it: a narrower
-// type would ask more of callers.
+// 12, 13 and 14, of its kind, its authorisation's type, its slot and the number of slots. The kind comes by its number, as the rules have it: a
+// narrower type would ask more of callers.
 pub fn late_refusal(kind: u8, amendment: u8, slot: usize, slots: usize) -> Result<(), Refusal>
     ensures { answer_of result ≡ answer (late_rules kind amendment slot slots) }
 {

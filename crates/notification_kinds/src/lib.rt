@@ -17,8 +17,8 @@ use book::{Book, BookView, state};
 use limits::kinds::Kind;
 use setups::authorisations;
 
-// A slot states something of a day and a period, counted from 0, on a side that is written. It is asked innermost, so it is handed the two sides and not
-// the view, whose book would be copied; two flags need no struct.
+// A slot states something of a day and a period, counted from 0, on a side that is written. It is asked innermost, and reads
+// no more of a book than these.
 fn states_at(
     side1: &[i32],
     side2: &[i32],

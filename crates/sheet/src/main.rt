@@ -1,7 +1,7 @@
 // The sheet program (document 01, "The sheet program"): reads a setup and then messages from standard input, however many, and prints the sheet.
-// What is printed is decided by the proved parts in crate sheet_parts; here is reading, lending and printing. Where standard input cannot be read or
-// standard output not be written, nothing more is read or printed, and the program ends with that error. The tables are lent apart, since messages change them (crate book,
-// `BookView`).
+// What is printed is decided by the proved parts in crate sheet_parts; here is reading, lending and printing. Where standard input cannot be read
+// or standard output not be written, nothing more is read or printed, and the program ends with that error. The tables are lent apart, since
+// messages change them (crate book, `BookView`).
 #![tactic(auto)]
 
 ghost use Rattle.std.specs.Prelude.{true, ◌≡◌, ◌≤◌, length};
@@ -69,7 +69,8 @@ fn read_some(streams: &mut Streams, bytes: &mut [u8]) -> usize
     }
 }
 
-// Reads until the buffer is full or the input has ended, and answers how many bytes are at its front then. A `while`: each read says how much it gave.
+// Reads until the buffer is full or the input has ended, and answers how many bytes are at its front then. A `while`: each read says how much it
+// gave.
 fn read_full(streams: &mut Streams, bytes: &mut [u8]) -> usize
     ensures { result ≤ length bytes.new }
 {

@@ -1,4 +1,5 @@
-// The setup at the front of the input, the book that it opens, and the first line. The tables that a call changes are lent apart (crate book, `BookView`).
+// The setup at the front of the input, the book that it opens, and the first line. The tables that a call changes are lent apart (crate book,
+// `BookView`).
 ghost use Rattle.std.specs.Prelude.{◌≡◌, ◌≤◌, length};
 ghost use Rattle.sheet_lines.specs.Places.{Puts};
 ghost use Rattle.meaning.specs.Sheet.{lent_for};

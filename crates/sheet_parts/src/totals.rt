@@ -8,7 +8,7 @@ ghost use Rattle.sheet_parts.specs.Promises.{PutsAccountDay};
 
 use book::{Book, BookView};
 
-// A line for a total that is not zero, and the place after it.
+// A line for a total that is not zero, and the place after it. The buffer and the place are two parameters, as in decimals.
 fn put_total(out: &mut [u8], at: usize, account: u8, day: u16, period: u8, kwh: i64) -> usize
     ensures { PutsAll (period_lines account day period kwh) out.old at out.new result }
 {

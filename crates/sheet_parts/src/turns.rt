@@ -1,4 +1,5 @@
-// A turn of the program: the messages at hand, done to the book, and their lines. The tables that a call changes are lent apart (crate book, `BookView`).
+// A turn of the program: the messages at hand, done to the book, and their lines. The tables that a call changes are lent apart (crate book,
+// `BookView`).
 ghost use Rattle.std.specs.Prelude.{◌≡◌};
 ghost use Rattle.sheet_turns.specs.Turns.{last_in, waits_for, count_told};
 ghost use Rattle.sheet_parts.specs.Promises.{Turns};

@@ -10,3 +10,4 @@ pub mod Unique
 pub mod OnePosition
 pub mod PositionFromHistory
 pub mod CheckedPosition
+pub mod MarkTells

@@ -2,7 +2,7 @@
 // include/ghendufika.h declares these functions and names the fields.
 #![tactic(auto)]
 
-mod asked; // asked.rt: the numbers that a question names
+mod asked; // asked.rt: the book and the numbers that a question names
 pub mod books; // books.rt: a book from C
 pub mod packing; // packing.rt: messages, setups and books out of packed bytes, and into them
 pub mod bars; // bars.rt: one mark, and where a row lies
@@ -20,8 +20,8 @@ ghost use Rattle.viewer.specs.Numbers.{mark_numbers};
 use bar::Bar;
 use limits::refusals::{Refusal, answer_of};
 
-// `bar` is the number of the mark's case: 0 Blank, 1 OneSide, 2 Agreed, 3 Disagreed; a figure that the case does not have is positive zero. With a
-// refusal the mark is blank.
+// What C is given of a mark: `bar` is the number of its case, 0 Blank, 1 OneSide, 2 Agreed, 3 Disagreed; a figure that the case does not have is
+// positive zero. With a refusal the mark is blank.
 #[repr(C)]
 #[derive(Clone, Copy)]
 pub struct MarkNumbers {

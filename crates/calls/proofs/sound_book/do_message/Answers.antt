@@ -17,7 +17,7 @@ returns-in_err-book-in-0 c =
 pub returns-in_ok-book-in-0 : goal.returns-in_ok-book-in-0
 returns-in_ok-book-in-0 c =
     let a = c.args in
-    rw (kind-gate a.m c.in-0.is)
+    rw (c.untold.ensures, kind-gate a.m c.in-0.is)
     (does-gate a.b a.held.now a.side1.now a.side2.now c.requires (gated_seen a.b (Ok c.in_ok-book-in-0.book)) c.in_ok-book-in-0.ensures)
 
 pub returns-in_err-accepted-in-1 : goal.returns-in_err-accepted-in-1
@@ -43,7 +43,7 @@ returns-in_err-do_nullification-in-2 c =
 pub returns-in_ok-do_nullification-in-2 : goal.returns-in_ok-do_nullification-in-2
 returns-in_ok-do_nullification-in-2 c =
     let a = c.args in
-    rw (kind-nullification a.m c.in-2.is)
+    rw (c.untold-in-2.ensures, kind-nullification a.m c.in-2.is)
     (does-nullification a.b a.held.now a.side1.now a.side2.now a.m _ _ _ c.in_ok-do_nullification-in-2.ensures)
 
 pub returns-in_err-kind_refusal-in_default : goal.returns-in_err-kind_refusal-in_default
