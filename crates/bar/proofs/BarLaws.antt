@@ -1,22 +1,15 @@
 -- The bar of what two sides hold, case by case.
 use mathlib.Core.Bool.{true, false, ◌&&◌}
-use mathlib.Core.Path.{◌≡◌, refl}
+use mathlib.Core.Path.{◌≡◌}
 use Prim.Native.Nat.{ℕ}
-use lib.Count.{count_trailing_zeros}
-use lib.Ieee.{binary64, of_bits, of_fields, odd}
 use lib.IntN.{ℤ}
 use Rattle.laws.proofs.Cases.{and_left, and_right}
 use Rattle.meaning.specs.Ledgers.{contracts, stands}
 use Rattle.meaning.specs.Authorisations.{Authorisation}
 use Rattle.meaning.specs.Totals.{matches, seen_by, mwh}
 use Rattle.meaning.proofs.Bars as Bars
-use Rattle.bar.specs.Figures.{no_figure, bar_seen}
+use Rattle.bar.specs.Figures.{bar_seen}
 use Rattle.bar.specs.declared.Bar.TheVariants.{Blank, OneSide, Agreed, Disagreed}
-
--- the literal 0.0 of the code
-pub zero_bits : of_bits binary64 0 ≡ no_figure
-unfolding of_bits of_fields odd count_trailing_zeros
-zero_bits = refl
 
 -- ---- the bar of what the two sides hold
 

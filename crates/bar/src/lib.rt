@@ -32,21 +32,15 @@ pub fn bar_of(row: setups::Authorisation, account: u8, v: i32, w: i32) -> Bar
     if figures::is_matched(v, w) {
         return Bar::Agreed(figure(row, account, v));
     }
-    let one = ledger::states(v);
-    let two = ledger::states(w);
-    if one & two {
-        return Bar::Disagreed(figure(row, account, v), figure(row, account, w));
+    match (ledger::states(v), ledger::states(w)) {
+        (true, true) => Bar::Disagreed(figure(row, account, v), figure(row, account, w)),
+        (true, false) => Bar::OneSide(figure(row, account, v)),
+        (false, true) => Bar::OneSide(figure(row, account, w)),
+        (false, false) => Bar::Blank,
     }
-    if one {
-        return Bar::OneSide(figure(row, account, v));
-    }
-    if two {
-        return Bar::OneSide(figure(row, account, w));
-    }
-    Bar::Blank
 }
 
-// ---- the number and the values of a case
+// ---- the number and the values of a case: three functions, each of its own definition, since C is given the three apart
 
 pub fn case_of(bar: Bar) -> u8
     ensures { result ≡ case_of bar }
@@ -64,9 +58,7 @@ pub fn first_of(bar: Bar) -> f64
 {
     match bar {
         Bar::Blank => 0.0,
-        Bar::OneSide(x) => x,
-        Bar::Agreed(x) => x,
-        Bar::Disagreed(x, _) => x,
+        Bar::OneSide(x) | Bar::Agreed(x) | Bar::Disagreed(x, _) => x,
     }
 }
 
@@ -74,9 +66,7 @@ pub fn second_of(bar: Bar) -> f64
     ensures { result ≡ second_of bar }
 {
     match bar {
-        Bar::Blank => 0.0,
-        Bar::OneSide(_) => 0.0,
-        Bar::Agreed(_) => 0.0,
+        Bar::Blank | Bar::OneSide(_) | Bar::Agreed(_) => 0.0,
         Bar::Disagreed(_, y) => y,
     }
 }

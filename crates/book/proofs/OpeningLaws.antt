@@ -1,21 +1,50 @@
 -- Opening: what a refusal leaves, and that an opened book with its emptied tables is the one that meaning speaks of.
+use mathlib.Core.Bool.{true, false, true≢false}
 use mathlib.Core.List.{List}
 use mathlib.Core.Logic.{◌≢◌}
-use mathlib.Core.Path.{◌≡◌, sym, ap, ◌∙◌}
+use mathlib.Core.Path.{◌≡◌, refl, sym, ap, ◌∙◌}
 use Prim.Native.Nat.{ℕ}
 use lib.IntN.{ℤ}
 use lib.ListN.{length}
 use borrow.Author.Tests.{ne_eqb}
+use Rattle.std.specs.Prelude.{Result, Ok, Err, is_err}
 use Rattle.words.specs.Rules.{answer}
+use Rattle.fields.specs.declared.AtFront.{AtFront}
+use Rattle.limits.specs.declared.refusals.Refusal.{Refusal}
+use Rattle.limits.specs.Refusals.{number_of, answer_of}
+use Rattle.limits.proofs.AnswerNumbers.{never-done}
+use Rattle.limits.proofs.Told.{told}
 use Rattle.meaning.specs.Ledgers.{contracts, empty_ledger}
 use Rattle.meaning.specs.Books.{opening_rules, opened_book}
 use Rattle.meaning.proofs.SetupRules.{opens}
 use Rattle.setups.specs.declared.Setup.{Setup}
 use Rattle.setups.specs.Structs.{setup_of}
-use Rattle.book.specs.Answers.{no_book, opened, held_opened, side_opened}
+use Rattle.book.specs.Answers.{no_book, opened, opened_seen, opened_packed_seen, held_opened, side_opened}
 use Rattle.book.specs.declared.Book.{Book}
 use Rattle.book.specs.declared.Opened.{Opened}
+use Rattle.book.specs.declared.OpenedPacked.{OpenedPacked}
 use Rattle.book.specs.Structs.{book_of}
+
+-- ---- outcomes and what is given of them
+
+pub number-refuses : (r : Refusal) → number_of r ≢ 0
+number-refuses r e = never-done r e
+
+pub answer-refuses : (r : Result Unit Refusal) → is_err r ≡ true → answer_of r ≢ 0
+answer-refuses (Ok _) e = absurd (true≢false (sym e))
+answer-refuses (Err r) e = number-refuses r
+
+pub answer-done : (r : Result Unit Refusal) → is_err r ≡ false → answer_of r ≡ 0
+answer-done (Ok _) e = refl
+answer-done (Err r) e = absurd (true≢false e)
+
+pub same-opened : (r s : Result Book Refusal) → opened_seen r ≡ opened_seen s → r ≡ s
+same-opened = told opened_seen (λ (o : Opened). o.answer) (λ (o : Opened). o.book) (λ b. refl) (λ r. refl) (λ b. refl)
+
+pub same-opened-packed : (r s : Result (AtFront Book) Refusal) → opened_packed_seen r ≡ opened_packed_seen s → r ≡ s
+same-opened-packed = told opened_packed_seen (λ (o : OpenedPacked). o.answer) (λ (o : OpenedPacked). record { length = o.length; value = o.book }) (λ b. refl) (λ r. refl) (λ b. refl)
+
+-- ---- a refusal
 
 module _ (n : ℕ) (refused : n ≢ 0) where
   pub opened-refused : (s : Setup) → opened s n ≡ record { answer = n; book = no_book }

@@ -5,7 +5,7 @@ use mathlib.Core.Path.{◌≡◌, sym, ap, ◌∙◌}
 use Prim.Native.Nat.{ℕ}
 use lib.IntN.{ℤ}
 use lib.ListN.{length}
-use borrow.Author.Tests.{ne_eqb}
+use borrow.Author.Tests.{eqb-true, eq-eqb, ne_eqb}
 use Rattle.words.specs.Tests.{◌=?◌}
 use Rattle.words.specs.Rules.{answer}
 use Rattle.laws.proofs.Cases.{by-eq, one-outcome}
@@ -15,17 +15,17 @@ use Rattle.meaning.specs.Books.{counts_wrong, opening_rules, opened_book}
 use Rattle.meaning.specs.PackedMessages.{Reading}
 use Rattle.meaning.specs.PackedSetups.{no_setup, setup_in, setup_reading_rules, read_setup}
 use Rattle.meaning.proofs.PackedSetupRules.{setup-reading-answer, setup-reading-done, setup-readable}
-use Rattle.setups.specs.Structs.{setup_of, setup_for}
+use Rattle.setups.specs.Structs.{no_setup_struct, setup_of, setup_for}
 use Rattle.setups.specs.declared.Setup.{Setup}
 use Rattle.setup_reading.specs.Structs.{setup_read}
 use Rattle.setup_reading.specs.declared.SetupRead.{SetupRead}
 use Rattle.setup_reading.proofs.ReadParts.{struct_holds, few-codes, few-rows}
 use Rattle.setups.proofs.SetupHeld.{codes-own}
-use Rattle.book.specs.Answers.{opened, opened_packed, held_opened, side_opened}
+use Rattle.book.specs.Answers.{no_book, opened, opened_packed, held_opened, side_opened}
 use Rattle.book.specs.declared.Opened.{Opened}
 use Rattle.book.specs.declared.OpenedPacked.{OpenedPacked}
 use Rattle.book.specs.Structs.{book_of}
-use Rattle.book.proofs.OpeningLaws.{opened-book}
+use Rattle.book.proofs.OpeningLaws.{opened-book, opened-refused, held-refused, side-refused}
 use Rattle.book.proofs.UniqueState.{Opens}
 
 -- ---- it opens exactly where it reads
@@ -105,6 +105,20 @@ module _ (bytes held : List ℕ) (side1 side2 : List ℤ) where
   abbrev pub OpensPacked : OpenedPacked → List ℕ → List ℤ → List ℤ → Type 0
   OpensPacked = OpensPackedBy whole held side1 side2
 
+  -- reading refused
+  pub refused_by_reading : (n : ℕ) → n ≢ 0 → record { answer = n; length = 0; setup = no_setup_struct } ≡ setup_read whole
+      → OpensPacked (record { answer = n; length = 0; book = no_book }) held side1 side2
+  unfolding setup_read opened_packed
+  refused_by_reading n refused e =
+      let number : n ≡ whole.answer = ap (λ (r : SetupRead). r.answer) e in
+      let none : 0 ≡ whole.length = ap (λ (r : SetupRead). r.length) e in
+      rw (← number, ← none) (
+        rw (opened-refused n refused (setup_for whole.read)),
+        sym (held-refused n refused held),
+        sym (side-refused n refused side1),
+        sym (side-refused n refused side2),
+      )
+
   pub opened-from : (read : SetupRead) (o : Opened) (h : List ℕ) (l1 l2 : List ℤ) → read ≡ setup_read whole → Opens read.setup held side1 side2 o h l1 l2
       → OpensPacked (record { answer = read.answer; length = read.length; book = o.book }) h l1 l2
   unfolding setup_read opened_packed
@@ -119,6 +133,16 @@ module _ (bytes held : List ℕ) (side1 side2 : List ℤ) where
         w.2 ∙ same-side n m same side1,
         w.3 ∙ same-side n m same side2,
       )
+
+  -- what was read opens
+  pub read-always-opens : (n : ℕ) (s : Setup) → record { answer = 0; length = n; setup = s } ≡ setup_read whole
+      → answer (opening_rules (setup_of s) (length held) (length side1) (length side2)) ≡ 0
+  unfolding setup_read
+  read-always-opens n s e =
+      let m = answer (opening_rules (setup_of (setup_for whole.read)) (length held) (length side1) (length side2)) in
+      let read : whole.answer ≡ 0 = sym (ap (λ (r : SetupRead). r.answer) e) in
+      let opens : m ≡ 0 = eqb-true m 0 (opens-exactly bytes (length held) (length side1) (length side2) ∙ eq-eqb whole.answer 0 read) in
+      ap (λ (x : Setup). answer (opening_rules (setup_of x) (length held) (length side1) (length side2))) (ap (λ (r : SetupRead). r.setup) e) ∙ opens
 
   -- where it is accepted, no rule of opening refuses the setup in the bytes, and the book with its tables is the one that meaning opens from it
   module _ (r : OpenedPacked) (h : List ℕ) (l1 l2 : List ℤ) (opens : OpensPacked r h l1 l2) (accepted : r.answer ≡ 0) where

@@ -1,8 +1,7 @@
 -- The clock by value holds the book's time, and a number names a row of the book or the row that is all zero; so does an entry.
-use mathlib.Core.Bool.{true, false, ◌&&◌, true≢false}
-use mathlib.Core.Logic.{◌≢◌}
+use mathlib.Core.Bool.{false, ◌&&◌, true≢false}
 use mathlib.Core.Path.{◌≡◌, refl, sym, ap, ◌∙◌}
-use Prim.Native.Nat.{ℕ, zero, suc, ◌-◌, ◌<◌}
+use Prim.Native.Nat.{ℕ, zero, suc, ◌-◌, ◌<◌, ◌≤◌}
 use native.Mathlib.Omega.{arith}
 use lib.Dec.{ltb}
 use lib.ListN.{length, get_or, get_or-eq_default}
@@ -46,15 +45,19 @@ module _ (s : Setup) (k : ℕ) where
   unfolding rows_of
   row_inside h = get_or-build s.authorisations (λ (j : ℕ). row_of (get_or s.rows j no_authorisation)) no_row k h
 
+  -- past the count
+  pub row_none : s.authorisations ≤ k → row_at (rows_in s) k ≡ no_row
+  unfolding rows_of
+  row_none h = get_or-build-past s.authorisations (λ (j : ℕ). row_of (get_or s.rows j no_authorisation)) no_row k h
+
   -- past the count, or past the array
   pub row-past : length s.rows ≡ 64 → ltb k s.authorisations && ltb k 64 ≡ false → row_at (rows_in s) k ≡ no_row
-  unfolding rows_of
   row-past l e =
       by-lt k s.authorisations
       (λ h. by-lt k 64
       (λ m. absurd (true≢false (sym (both (lt-ltb k s.authorisations h) (lt-ltb k 64 m)) ∙ e)))
       (λ m. row_inside h ∙ ap row_of (get_or-eq_default s.rows no_authorisation {n = k} (rw l m))))
-      (λ h. get_or-build-past s.authorisations (λ (j : ℕ). row_of (get_or s.rows j no_authorisation)) no_row k h)
+      row_none
 
 -- ---- the row of an entry, read where it lies
 
@@ -65,23 +68,6 @@ place-few entry e = omega (arith, e)
 place-own : (i : ℕ) → originator_of i < 64 → origin_place (suc i) ≡ originator_of i
 unfolding origin_place
 place-own i h = let e : suc i - 1 ≡ i = omega arith in rw e (omega arith)
-
--- an entry that holds an identifier is one more than it
-module _ (authorisations : ℕ) (row : Authorisation) where
-  pub origin-row-none : (entry : ℕ) → entry ≡ 0 → no_authorisation ≡ origin_row authorisations entry row
-  unfolding origin_row
-  origin-row-none entry e = rw e
-
-  module _ {k : ℕ} where
-    pub origin-row-own : (entry : ℕ) → entry ≢ 0 → k ≡ originator_of (entry - 1) → ltb k authorisations && ltb k 64 ≡ true → row ≡ origin_row authorisations entry row
-    unfolding origin_row
-    origin-row-own zero n q t = absurd (n refl)
-    origin-row-own (suc i) n q t = let e : suc i - 1 ≡ i = omega arith in rw (rw (q, e) at t)
-
-    pub origin-row-past : (entry : ℕ) → entry ≢ 0 → k ≡ originator_of (entry - 1) → ltb k authorisations && ltb k 64 ≡ false → no_authorisation ≡ origin_row authorisations entry row
-    unfolding origin_row
-    origin-row-past zero n q t = absurd (n refl)
-    origin-row-past (suc i) n q t = let e : suc i - 1 ≡ i = omega arith in rw (rw (q, e) at t)
 
 origin-known : (s : Setup) (entry : ℕ) → length s.rows ≡ 64
     → row_of (origin_row s.authorisations entry (get_or s.rows (origin_place entry) no_authorisation)) ≡ origin_in (rows_in s) entry

@@ -1,9 +1,12 @@
 -- What opening gives with an answer, which is 0 where it is accepted.
-use Rattle.std.specs.Prelude.{List, ℕ, ℤ, length, replicate, if◌then◌else◌}
+use Rattle.std.specs.Prelude.{List, ℕ, ℤ, Result, Ok, Err, length, replicate, if◌then◌else◌}
 use Rattle.words.specs.Tests.{◌=?◌}
 use Rattle.meaning.specs.Ledgers.{the_mark}
 use Rattle.meaning.specs.Books as Meaning
 use Rattle.meaning.specs.PackedMessages.{Reading}
+use Rattle.fields.specs.declared.AtFront.{AtFront}
+use Rattle.limits.specs.declared.refusals.Refusal.{Refusal}
+use Rattle.limits.specs.Refusals.{number_of}
 use Rattle.setups.specs.declared.Setup.{Setup}
 use Rattle.setups.specs.Structs.{no_setup_struct, setup_for}
 use Rattle.book.specs.declared.Book.{Book}
@@ -18,6 +21,11 @@ no_book = record { setup = no_setup_struct; closed = 0 }
 unfoldable pub opened : Setup → ℕ → Opened
 opened s answer = record { answer = answer; book = if answer =? 0 then record { setup = s; closed = 0 } else no_book }
 
+-- what C is given of an outcome, here and below. No two outcomes are seen as one struct: OpeningLaws.antt.
+abbrev pub opened_seen : Result Book Refusal → Opened
+opened_seen (Ok book) = record { answer = 0; book = book }
+opened_seen (Err refusal) = record { answer = number_of refusal; book = no_book }
+
 unfoldable pub held_opened : ℕ → List ℕ → List ℕ
 held_opened answer held = if answer =? 0 then replicate (length held) 0 else held
 
@@ -28,3 +36,7 @@ side_opened answer side = if answer =? 0 then replicate (length side) the_mark e
 unfoldable pub opened_packed : Reading Meaning.Setup → OpenedPacked
 opened_packed read =
     record { answer = read.answer; length = read.length; book = (opened (setup_for read.read) read.answer).book }
+
+abbrev pub opened_packed_seen : Result (AtFront Book) Refusal → OpenedPacked
+opened_packed_seen (Ok front) = record { answer = 0; length = front.length; book = front.value }
+opened_packed_seen (Err refusal) = record { answer = number_of refusal; length = 0; book = no_book }

@@ -11,6 +11,7 @@ use Rattle.setups.specs.declared.Authorisation as Setups
 use Rattle.setups.specs.declared.Setup.{Setup}
 use Rattle.setups.specs.Structs.{no_authorisation, codes_of, rows_of}
 use Rattle.book.specs.declared.Book.{Book}
+use Rattle.book.specs.declared.BookView.{BookView}
 
 -- the days and the clock, and the same by value
 abbrev pub time_in : Book → Time
@@ -39,3 +40,7 @@ setting_in b = record { time = time_in b; accounts = b.setup.accounts; rows = ro
 -- a book by value beside its lent tables: held, side 1, side 2
 abbrev pub book_of : Book → List ℕ → List ℤ → List ℤ → Meaning.Book contracts
 book_of b held side1 side2 = record { setting = setting_in b; ledger = record { held = held; side1 = side1; side2 = side2 } }
+
+-- the same where the four are seen together
+abbrev pub book_seen : BookView → Meaning.Book contracts
+book_seen view = book_of view.book view.held.now view.side1.now view.side2.now

@@ -14,7 +14,17 @@ pub struct Book {
     pub closed: u16,
 }
 
-// With a refusal the book is all zero.
+// A book beside its lent tables, as every question of it is asked. Where a call changes the tables, they are lent apart: a struct of `&mut`s needs
+// a clause for each that it is still the same loan.
+#[derive(Clone, Copy)]
+pub struct BookView<'a> {
+    pub book: Book,
+    pub held: &'a [u32],
+    pub side1: &'a [i32],
+    pub side2: &'a [i32],
+}
+
+// What C is given. With a refusal the book is all zero.
 #[repr(C)]
 #[derive(Clone, Copy)]
 pub struct Opened {
@@ -22,7 +32,7 @@ pub struct Opened {
     pub book: Book,
 }
 
-// The length is that of the packed setup. With a refusal it is 0, and the book all zero.
+// What C is given. The length is that of the packed setup. With a refusal it is 0, and the book all zero.
 #[repr(C)]
 #[derive(Clone, Copy)]
 pub struct OpenedPacked {

@@ -15,11 +15,12 @@ pub fn clock_of(b: Book) -> clock::Clock
     ensures { result ≡ clock_in b }
 {
     let s = b.setup;
+    // An array straight from a field into a literal gets no generated proof.
     let codes = s.codes;
     clock::Clock {
         first: s.first,
         days: s.days,
-        codes: codes,
+        codes,
         closed: b.closed,
     }
 }
@@ -29,36 +30,27 @@ pub fn row_of(b: Book, k: u32) -> setups::Authorisation
     ensures { row_of result ≡ row_at (rows_in b.setup) k }
 {
     let s = b.setup;
-    let mut row = setups::Authorisation {
-        agent1: 0,
-        agent2: 0,
-        account1: 0,
-        account2: 0,
-        key: 0,
-        first: 0,
-        last: 0,
-        amendment: 0,
-    };
-    if (k < s.authorisations as u32) & (k < MOST_ROWS) {
-        row = s.rows[k as usize];
+    if s.authorisations as u32 <= k {
+        return setups::Authorisation::NONE;
     }
-    row
+    s.rows
+        .get(k as usize)
+        .copied()
+        .unwrap_or(setups::Authorisation::NONE)
 }
 
 // Where the array of authorisations would have the originating one of the identifier that an entry of `held` holds; a place of the array in any
 // case. Reading the array by such a place copies one row, where `row_of` copies all of them.
+#[tactic(auto, unfolding(crate::specs::Structs::origin_place))]
 pub fn origin_place(entry: u32) -> usize
     ensures { result ≡ origin_place entry }
 {
-    let k = ledger::slots::originator_of(entry) as usize;
-    if k < LAST_ROW {
-        return k;
-    }
-    LAST_ROW
+    (ledger::slots::originator_of(entry) as usize).min(LAST_ROW)
 }
 
 // The originating authorisation of the identifier that an entry holds, where the array has `row` at that place; all zero where the entry holds none,
 // or a book of so many authorisations has none of that number.
+#[tactic(auto, unfolding(crate::specs::Structs::origin_row))]
 pub fn origin_row(
     authorisations: u8,
     entry: u32,
@@ -66,22 +58,12 @@ pub fn origin_row(
 ) -> setups::Authorisation
     ensures { result ≡ origin_row authorisations entry row }
 {
-    let none = setups::Authorisation {
-        agent1: 0,
-        agent2: 0,
-        account1: 0,
-        account2: 0,
-        key: 0,
-        first: 0,
-        last: 0,
-        amendment: 0,
-    };
     if entry == 0 {
-        return none;
+        return setups::Authorisation::NONE;
     }
     let k = ledger::slots::originator_of(entry);
     if (k < authorisations as u32) & (k < MOST_ROWS) {
         return row;
     }
-    none
+    setups::Authorisation::NONE
 }

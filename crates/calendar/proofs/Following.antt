@@ -1,17 +1,16 @@
 -- Days that follow each other: the last of them is the first to leave the calendar. So a proposal is refused by it alone.
-use mathlib.Core.Bool.{true, false, not, ◌||◌, true≢false}
+use mathlib.Core.Bool.{true, false, not, true≢false}
 use mathlib.Core.Path.{◌≡◌, refl, sym, ap, ◌∙◌}
 use Prim.Native.Nat.{ℕ, ◌+◌, ◌-◌, ◌≤◌, ◌<◌}
 use native.Mathlib.Omega.{arith}
-use borrow.Author.Tests.{lt-ltb, le-ltb, le-leb, lt-leb, leb-true}
+use borrow.Author.Tests.{leb-true}
 use Rattle.words.specs.Tests.{◌<?◌, ◌≤?◌, between}
 use Rattle.words.specs.Rules.{answer}
 use Rattle.laws.proofs.Cases.{by-lt, and_left, and_right, or_left, not-not}
 use Rattle.laws.proofs.Below.{some-hit, some-all}
 use Rattle.laws.proofs.Rules.{answer-none}
-use Rattle.calendar.specs.Calendar.{is_day, some_day_outside, code_of}
-use Rattle.calendar.specs.Answers.{coded, proposal_rules}
-use Rattle.calendar.specs.declared.Coded.{Coded}
+use Rattle.calendar.specs.Calendar.{is_day, some_day_outside}
+use Rattle.calendar.specs.Answers.{proposal_rules}
 use Rattle.calendar.proofs.Years.{below-day, day-out}
 
 module _ (first days : ℕ) where
@@ -28,14 +27,6 @@ module _ (first days : ℕ) where
   not-outside z e = by-lt 36525 (first + days) (λ h. absurd (true≢false (sym (outside z h) ∙ e))) (λ h. h)
 
 -- "1 to 8 consecutive settlement days"
-pub days-wrong : (days : ℕ) → days <? 1 || 8 <? days ≡ not (between 1 8 days)
-days-wrong days =
-    by-lt days 1
-    (λ l. rw (lt-ltb days 1 l, lt-leb 1 days l))
-    (λ l. by-lt 8 days
-    (λ h. rw (le-ltb days 1 l, lt-ltb 8 days h, le-leb 1 days l, lt-leb days 8 h))
-    (λ h. rw (le-ltb days 1 l, le-ltb 8 days h, le-leb 1 days l, le-leb days 8 h)))
-
 pub days-right : (days : ℕ) → not (between 1 8 days) ≡ false → (1 ≤ days) × (days ≤ 8)
 days-right days e =
     let t : between 1 8 days ≡ true = sym (not-not (between 1 8 days)) ∙ ap not e in
@@ -48,8 +39,3 @@ proposal-inside first days e =
     let none = answer-none (proposal_rules first days) refl e in
     let d = days-right days (or_left (not (between 1 8 days)) (65535 <? first + days) (none 0)) in
     (d.0, d.1, not-outside first days d.0 (none 1))
-
--- the code that a day's answer has
-pub code_is : (n : ℕ) (r : Coded) → n < 36525 → r ≡ coded n → r.code ≡ code_of n
-unfolding coded
-code_is n r h e = ap (λ (x : Coded). x.code) e ∙ rw (below-day n h)

@@ -11,3 +11,4 @@ pub mod Tomorrow
 pub mod CodeLengths
 pub mod Theorems
 pub mod Unique
+pub mod Outcomes

@@ -2,9 +2,10 @@
 ghost use Rattle.std.specs.Prelude.{◌≡◌, ◌≤◌, ◌<◌};
 ghost use Rattle.calendar.specs.Calendar.{is_leap, month_length, before_month, year_length, month_of, before_year, year_of, is_date};
 ghost use Rattle.calendar.specs.Answers.{date_of, numbered, dated};
+ghost use Rattle.calendar.specs.Outcomes.{as_numbered, as_dated};
 
-use crate::{Date, Dated, Numbered};
-use limits::numbers;
+use crate::Date;
+use limits::refusals::Refusal;
 
 const LAST_YEAR: u32 = 2099;
 
@@ -65,10 +66,8 @@ fn month_of(leap: bool, day: u32) -> u32
     ensures { result ≡ month_of leap day }
 {
     let guess = day / 32 + 1;
-    if guess < 12 {
-        if before_month(leap, guess + 1) <= day {
-            return guess + 1;
-        }
+    if guess < 12 && before_month(leap, guess + 1) <= day {
+        return guess + 1;
     }
     guess
 }
@@ -76,59 +75,37 @@ fn month_of(leap: bool, day: u32) -> u32
 fn is_date(year: u32, month: u32, day: u32) -> bool
     ensures { result ≡ is_date (date_of year month day) }
 {
-    let in_years = (crate::FIRST_YEAR <= year) & (year <= LAST_YEAR);
-    let is_month = (1 <= month) & (month <= 12);
-    if in_years & is_month {
-        let most = month_length(is_leap(year), month);
-        return (1 <= day) & (day <= most);
-    }
-    false
+    let month_exists = (crate::FIRST_YEAR..=LAST_YEAR).contains(&year) & (1..=12).contains(&month);
+    month_exists && (1..=month_length(is_leap(year), month)).contains(&day)
 }
 
 // The number of a date's day. A date that is not in 2000 to 2099, as 30 February of any year, is refused by 27.
-pub fn day_of_date(year: u32, month: u32, day: u32) -> Numbered
-    ensures { result ≡ numbered (date_of year month day) }
+pub fn day_of_date(year: u32, month: u32, day: u32) -> Result<u16, Refusal>
+    ensures { as_numbered result ≡ numbered (date_of year month day) }
 {
     if !is_date(year, month, day) {
-        return Numbered {
-            answer: numbers::NOT_IN_CALENDAR,
-            day: 0,
-        };
+        return Err(Refusal::NotInCalendar);
     }
     let years = before_year(year);
     let months = before_month(is_leap(year), month);
-    Numbered {
-        answer: 0,
-        day: (years + (months + (day - 1))) as u16,
-    }
+    Ok((years + (months + (day - 1))) as u16)
 }
 
 // The date of a day's number; 27 for a day that is not in 2000 to 2099.
-pub fn date_of_day(day: u32) -> Dated
-    ensures { result ≡ dated day }
+pub fn date_of_day(day: u32) -> Result<Date, Refusal>
+    ensures { as_dated result ≡ dated day }
 {
     if crate::LAST_DAY < day {
-        return Dated {
-            answer: numbers::NOT_IN_CALENDAR,
-            date: Date {
-                year: 0,
-                month: 0,
-                day: 0,
-            },
-        };
+        return Err(Refusal::NotInCalendar);
     }
     let year = year_of(day as u16);
     let leap = is_leap(year);
     let rest = day - before_year(year);
     let month = month_of(leap, rest);
     let before = before_month(leap, month);
-    let date = Date {
+    Ok(Date {
         year: year as u16,
         month: month as u8,
         day: (rest - before + 1) as u8,
-    };
-    Dated {
-        answer: 0,
-        date: date,
-    }
+    })
 }

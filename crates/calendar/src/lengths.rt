@@ -1,10 +1,11 @@
 // The length of a day: 46 on the last Sunday of March, 50 on the last Sunday of October, else 48 (Calendar.antt).
 ghost use Rattle.std.specs.Prelude.{◌≡◌, ◌≤◌};
-ghost use Rattle.calendar.specs.Calendar.{length_of, code_for};
+ghost use Rattle.calendar.specs.Calendar.{length_of, code_for, code_of};
 ghost use Rattle.calendar.specs.Answers.{measured, coded};
+ghost use Rattle.calendar.specs.Outcomes.{as_measured, as_coded};
 
-use crate::{Coded, Measured, dates};
-use limits::numbers;
+use crate::dates;
+use limits::refusals::Refusal;
 
 // "day 0 is a Saturday"
 const FIRST_SUNDAY: u16 = 1;
@@ -52,47 +53,37 @@ fn periods_on(day: u16) -> u8
 }
 
 // The periods of a day; 27 for a day that is not in 2000 to 2099.
-pub fn day_length(day: u32) -> Measured
-    ensures { result ≡ measured day }
+pub fn day_length(day: u32) -> Result<u8, Refusal>
+    ensures { as_measured result ≡ measured day }
 {
     if crate::LAST_DAY < day {
-        return Measured {
-            answer: numbers::NOT_IN_CALENDAR,
-            periods: 0,
-        };
+        return Err(Refusal::NotInCalendar);
     }
-    Measured {
-        answer: 0,
-        periods: periods_on(day as u16),
-    }
+    Ok(periods_on(day as u16))
 }
 
-// "0, 1, 2 for 46, 48, 50" (document 01)
+// "0, 1, 2 for 46, 48, 50" (document 01). A code is a number, as C has it in a setup.
 fn code_for(periods: u8) -> u8
     ensures { result ≡ code_for periods }
 {
-    if periods == limits::SHORT_DAY {
-        return 0;
+    match periods {
+        limits::SHORT_DAY => 0,
+        limits::PLAIN_DAY => 1,
+        _ => 2,
     }
-    if periods == limits::PLAIN_DAY {
-        return 1;
-    }
-    2
+}
+
+// The code that a setup has for a day of the calendar.
+pub(crate) fn code_on(day: u16) -> u8
+    requires { day ≤ 36524 }
+    ensures { result ≡ code_of day }
+{
+    code_for(periods_on(day))
 }
 
 // The code that a setup has for a day; 27 for a day that is not in 2000 to 2099.
-pub fn code_of_day(day: u32) -> Coded
-    ensures { result ≡ coded day }
+pub fn code_of_day(day: u32) -> Result<u8, Refusal>
+    ensures { as_coded result ≡ coded day }
 {
-    let length = day_length(day);
-    if length.answer != 0 {
-        return Coded {
-            answer: length.answer,
-            code: 0,
-        };
-    }
-    Coded {
-        answer: 0,
-        code: code_for(length.periods),
-    }
+    Ok(code_for(day_length(day)?))
 }

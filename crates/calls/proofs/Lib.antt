@@ -9,6 +9,7 @@ pub mod RunLaws
 pub mod Bridge
 pub mod PlacesGiven
 pub mod PackedBridge
+pub mod Seen
 pub mod UniqueGate
 pub mod UniqueNullify
 pub mod UniqueNotify

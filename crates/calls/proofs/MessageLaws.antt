@@ -27,10 +27,9 @@ use Rattle.messages.specs.Structs.{notification_of, nullification_of, message_of
 use Rattle.messages.specs.Parts.{kind_refusal}
 use Rattle.book.specs.declared.Book.{Book}
 use Rattle.book.specs.Structs.{book_of}
-use Rattle.calls.specs.Answers.{after_call, after_message, next_answer, one_closed, gated, message_done}
+use Rattle.calls.specs.Answers.{after_call, after_message, next_answer, one_closed, gated, MessageDone, message_done}
 use Rattle.calls.specs.declared.Gated.{Gated}
 use Rattle.calls.specs.declared.Notified.{Notified}
-use Rattle.calls.specs.declared.sound_book.Done.{Done}
 use Rattle.calls.proofs.CallLaws.{after_one, message-setting, nullification-held}
 use Rattle.calls.proofs.GateLaws.{gate-sound, gated-steps}
 use Rattle.calls.proofs.NotifyLaws.{notified-number, notified-place, notification-answer, notification-place}
@@ -57,7 +56,7 @@ module _ (m : Message) where
 
 -- ---- what a message leaves, as `do_message` promises it
 
-abbrev pub Does : Book → Meaning.Book contracts → Packed → Done → List ℕ → List ℤ → List ℤ → Type 0
+abbrev pub Does : Book → Meaning.Book contracts → Packed → MessageDone → List ℕ → List ℤ → List ℤ → Type 0
 Does b before m r h l1 l2 =
     let left = (after_message before m).ledger in
     (r ≡ message_done b before m) × (h ≡ left.held) × (l1 ≡ left.side1) × (l2 ≡ left.side2)

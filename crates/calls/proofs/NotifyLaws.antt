@@ -9,6 +9,7 @@ use lib.Dec.{leb, ltb, eqb}
 use lib.IntN.{ℤ}
 use lib.ListN.{length, set}
 use borrow.Author.Tests.{ltb-true, lt-leb, eqb-true, ne_eqb}
+use Rattle.std.specs.Prelude.{Option, Some, None, IsSome}
 use Rattle.words.specs.Lists.{find, map_at}
 use Rattle.words.specs.Rules.{Rule, answer, place, Outcome, outcome, placeless}
 use Rattle.laws.proofs.Cases.{on}
@@ -19,7 +20,9 @@ use Rattle.meaning.specs.Messages as Messages
 use Rattle.meaning.specs.Messages.{notification, writes, held_after, rewritten, written}
 use Rattle.meaning.specs.Books as Meaning
 use Rattle.meaning.specs.Soundness.{sound}
-use Rattle.meaning.specs.Notifications.{under, is_replacement, is_additional, kind_of, kind_number, kind_rules, slot_rules, notification_rules, notified}
+use Rattle.meaning.specs.Notifications.{under, is_replacement, is_additional, kind_of, kind_number, kind_rules, slot_rules, notification_rules, notified, Kind, initial, replacement, additional}
+use Rattle.limits.specs.declared.kinds.Kind as Kinds
+use Rattle.limits.specs.Kinds.{number_found}
 use Rattle.meaning.specs.Calls.{Call, message, rules_for, refusal, act}
 use Rattle.meaning.proofs.SetupRules.{opens}
 use Rattle.meaning.proofs.Sound.{parts}
@@ -183,3 +186,9 @@ sound-fits b held side1 side2 s =
 pub sound-kind : (b : Book) (held : List ℕ) (side1 side2 : List ℤ) (n : Messages.Notification contracts) → sound (book_of b held side1 side2) ≡ true
     → kind_answer b held side1 side2 n ≡ kind_number (kind_of (book_of b held side1 side2) n)
 sound-kind b held side1 side2 n s = kind-fitting b held side1 side2 n (sound-fits b held side1 side2 s)
+
+pub kind-found : (found : Option Kinds.Kind) (k : Kind) → number_found found ≡ kind_number k → IsSome found
+kind-found None initial e = cc
+kind-found None replacement e = cc
+kind-found None additional e = cc
+kind-found (Some _) k e = refl

@@ -24,9 +24,8 @@ use Rattle.message_reading.specs.Structs.{message_read}
 use Rattle.message_reading.proofs.ReadAgain.{read-message-again}
 use Rattle.book.specs.declared.Book.{Book}
 use Rattle.book.specs.Structs.{book_of}
-use Rattle.calls.specs.Answers.{notified_of}
+use Rattle.calls.specs.Answers.{notified_of, MessageDone}
 use Rattle.calls.specs.declared.Applied.{Applied}
-use Rattle.calls.specs.declared.sound_book.Done.{Done}
 use Rattle.calls.proofs.CallLaws.{unsound-stays}
 use Rattle.calls.proofs.NotifyLaws.{unsound-outcome, notified-refused}
 use Rattle.calls.proofs.MessageLaws.{Does}
@@ -87,9 +86,9 @@ module _ (b : Book) (held : List ℕ) (side1 side2 : List ℤ) where
       pub unread-applies : (read_message bytes).answer ≢ 0 → Applies b held side1 side2 bytes (refused_by (placeless (read_message bytes).answer)) held side1 side2
       unread-applies n = rw (applied-unread whole bytes s n) (refl, refl, refl, refl)
 
-      module _ (e : (read_message bytes).answer ≡ 0) (d : Done) (h : List ℕ) (l1 l2 : List ℤ) (does : Does b whole read d h l1 l2) where
+      module _ (e : (read_message bytes).answer ≡ 0) (d : MessageDone) (h : List ℕ) (l1 l2 : List ℤ) (does : Does b whole read d h l1 l2) where
         number : d.answer ≡ answer (message_rules whole read)
-        number = ap (λ (x : Done). x.answer) does.0
+        number = ap (λ (x : MessageDone). x.answer) does.0
 
         abbrev told : Outcome
         told = record { answer = d.answer; place = d.place }
@@ -99,7 +98,7 @@ module _ (b : Book) (held : List ℕ) (side1 side2 : List ℤ) where
             let no : answer (message_rules whole read) ≢ 0 = λ z. n (number ∙ z) in
             let stays = message-refused whole read no in
             rw (applied-refused whole bytes s e no) (
-              ap (λ (x : Done). refused_by (record { answer = x.answer; place = x.place })) does.0,
+              ap (λ (x : MessageDone). refused_by (record { answer = x.answer; place = x.place })) does.0,
               does.1 ∙ ap (λ (w : Meaning.Book contracts). w.ledger.held) stays,
               does.2 ∙ ap (λ (w : Meaning.Book contracts). w.ledger.side1) stays,
               does.3 ∙ ap (λ (w : Meaning.Book contracts). w.ledger.side2) stays,
@@ -109,7 +108,7 @@ module _ (b : Book) (held : List ℕ) (side1 side2 : List ℤ) where
             → Applies b held side1 side2 bytes (record { answer = 0; kind = d.kind; slot = d.slot; place = 0; length = (read_message bytes).length; book = d.book }) h l1 l2
         done-applies z =
             rw (applied-done whole bytes s e (sym number ∙ z)) (
-              ap (λ (x : Done). record { answer = 0; kind = x.kind; slot = x.slot; place = 0; length = (read_message bytes).length; book = x.book }) does.0,
+              ap (λ (x : MessageDone). record { answer = 0; kind = x.kind; slot = x.slot; place = 0; length = (read_message bytes).length; book = x.book }) does.0,
               does.1,
               does.2,
               does.3,
@@ -121,8 +120,8 @@ module _ (b : Book) (held : List ℕ) (side1 side2 : List ℤ) where
         → Steps b held side1 side2 bytes (record { answer = (read_message bytes).answer; place = 0; length = 0; book = b }) held side1 side2
     unread-steps n = rw (stepped-unread bytes whole n) (refl, refl, refl, refl)
 
-    pub read-steps : (read_message bytes).answer ≡ 0 → (d : Done) (h : List ℕ) (l1 l2 : List ℤ) → Does b whole read d h l1 l2
+    pub read-steps : (read_message bytes).answer ≡ 0 → (d : MessageDone) (h : List ℕ) (l1 l2 : List ℤ) → Does b whole read d h l1 l2
         → Steps b held side1 side2 bytes (record { answer = d.answer; place = d.place; length = (read_message bytes).length; book = d.book }) h l1 l2
     read-steps e d h l1 l2 does =
         rw (stepped-read bytes whole e)
-        (ap (λ (x : Done). record { answer = x.answer; place = x.place; length = (read_message bytes).length; book = x.book }) does.0, does.1, does.2, does.3)
+        (ap (λ (x : MessageDone). record { answer = x.answer; place = x.place; length = (read_message bytes).length; book = x.book }) does.0, does.1, does.2, does.3)

@@ -14,11 +14,10 @@ use Rattle.messages.specs.declared.Nullification.{Nullification}
 use Rattle.messages.specs.Structs.{notification_of, nullification_of}
 use Rattle.book.specs.declared.Book.{Book}
 use Rattle.book.specs.Structs.{book_of}
-use Rattle.calls.specs.Answers.{after_call, notified_of, applied_of, stepped_of, ran_of}
+use Rattle.calls.specs.Answers.{after_call, notified_of, applied_of, StepDone, stepped_of, ran_of}
 use Rattle.calls.specs.declared.Notified.{Notified}
 use Rattle.calls.specs.declared.Applied.{Applied}
 use Rattle.calls.specs.declared.AppliedAll.{AppliedAll}
-use Rattle.calls.specs.declared.packed.Stepped.{Stepped}
 
 module _ (b : Book) (held : List ℕ) (side1 side2 : List ℤ) where
   abbrev pub Notifies : Notification → Notified → List ℕ → List ℤ → List ℤ → Type 0
@@ -39,7 +38,7 @@ module _ (b : Book) (held : List ℕ) (side1 side2 : List ℤ) where
       (r ≡ applied_of b whole) × (h ≡ whole.book.ledger.held) × (l1 ≡ whole.book.ledger.side1) × (l2 ≡ whole.book.ledger.side2)
 
   -- a step of a run, on a book that is known to be sound
-  abbrev pub Steps : List ℕ → Stepped → List ℕ → List ℤ → List ℤ → Type 0
+  abbrev pub Steps : List ℕ → StepDone → List ℕ → List ℤ → List ℤ → Type 0
   Steps bytes r h l1 l2 =
       let whole = stepped (book_of b held side1 side2) bytes in
       (r ≡ stepped_of b whole) × (h ≡ whole.book.ledger.held) × (l1 ≡ whole.book.ledger.side1) × (l2 ≡ whole.book.ledger.side2)

@@ -21,9 +21,8 @@ use Rattle.meaning.proofs.PackedCalls.{read-takes, stepped-read, stepped-unread,
 use Rattle.setups.specs.declared.Setup.{Setup}
 use Rattle.book.specs.declared.Book.{Book}
 use Rattle.book.specs.Structs.{setting_in, book_of}
-use Rattle.calls.specs.Answers.{book_at, ran_of}
+use Rattle.calls.specs.Answers.{book_at, ran_of, StepDone}
 use Rattle.calls.specs.declared.AppliedAll.{AppliedAll}
-use Rattle.calls.specs.declared.packed.Stepped.{Stepped}
 use Rattle.calls.proofs.Promises.{Steps}
 
 -- ---- what is done and what is ahead
@@ -175,40 +174,40 @@ module _ (bytes : List ℕ) (b : Book) (held₀ : List ℕ) (side1₀ side2₀ :
       next-room = omega arith
 
       -- an unreadable message ends it
-      pub running-last : (a : Stepped) (h : List ℕ) (l1 l2 : List ℤ) → Steps now held side1 side2 (drop used bytes) a h l1 l2 → a.length ≡ 0
+      pub running-last : (a : StepDone) (h : List ℕ) (l1 l2 : List ℤ) → Steps now held side1 side2 (drop used bytes) a h l1 l2 → a.length ≡ 0
           → Ran (record { answer = 0; done = done + 1; used = used; book = a.book }) h l1 l2 (set answers done a.answer) (set places done a.place)
       running-last a h l1 l2 p e =
-          let none : one.length ≡ 0 = sym (ap (λ (x : Stepped). x.length) p.0) ∙ e in
+          let none : one.length ≡ 0 = sym (ap (λ (x : StepDone). x.length) p.0) ∙ e in
           let stays : one.book ≡ current = ap (λ (x : Step). x.book) (stepped-unread (drop used bytes) current (unread-stays (drop used bytes) current none)) in
           let rest = ap (λ (k : ℕ). applied_all k current (drop used bytes)) next-room ∙ unreadable current (drop used bytes) (room - (done + 1)) not-empty none in
-          let ended = ahead_none b a.book current (ahead-one (nothing_run current) one.outcome 0 r.ahead rest) refl (ap (λ (x : Stepped). x.book) p.0 ∙ ap (book_at now) stays ∙ now-book current) in
+          let ended = ahead_none b a.book current (ahead-one (nothing_run current) one.outcome 0 r.ahead rest) refl (ap (λ (x : StepDone). x.book) p.0 ∙ ap (book_at now) stays ∙ now-book current) in
           let at_last : used + 0 ≡ used = omega arith in (
             sym (ap (λ (k : ℕ). record { answer = 0; done = done + 1; used = k; book = a.book }) at_last) ∙ ended.0,
             p.1 ∙ ap (λ (w : Meaning.Book contracts). w.ledger.held) stays ∙ ended.1,
             p.2 ∙ ap (λ (w : Meaning.Book contracts). w.ledger.side1) stays ∙ ended.2,
             p.3 ∙ ap (λ (w : Meaning.Book contracts). w.ledger.side2) stays ∙ ended.3,
-            ap (λ (x : Stepped). set answers done x.answer) p.0 ∙ ended.4,
-            ap (λ (x : Stepped). set places done x.place) p.0 ∙ ended.5,
+            ap (λ (x : StepDone). set answers done x.answer) p.0 ∙ ended.4,
+            ap (λ (x : StepDone). set places done x.place) p.0 ∙ ended.5,
           )
 
       -- a message that is read takes some of the bytes
-      pub takes-some : (a : Stepped) (h : List ℕ) (l1 l2 : List ℤ) → Steps now held side1 side2 (drop used bytes) a h l1 l2 → used + a.length ≤ length bytes
+      pub takes-some : (a : StepDone) (h : List ℕ) (l1 l2 : List ℤ) → Steps now held side1 side2 (drop used bytes) a h l1 l2 → used + a.length ≤ length bytes
       takes-some a h l1 l2 p =
-          let taken : a.length ≡ one.length = ap (λ (x : Stepped). x.length) p.0 in
+          let taken : a.length ≡ one.length = ap (λ (x : StepDone). x.length) p.0 in
           by-eq one.length 0
           (λ z. omega (arith, taken, z))
           (λ n.
           let e = takes-read (drop used bytes) current n in
           omega (arith, taken, ap (λ (x : Step). x.length) (stepped-read (drop used bytes) current e), (read-takes (drop used bytes) e).1, length-drop used bytes))
 
-      pub running-one : (a : Stepped) (h : List ℕ) (l1 l2 : List ℤ) → Steps now held side1 side2 (drop used bytes) a h l1 l2 → a.length ≢ 0
+      pub running-one : (a : StepDone) (h : List ℕ) (l1 l2 : List ℤ) → Steps now held side1 side2 (drop used bytes) a h l1 l2 → a.length ≢ 0
           → length h ≡ length held → length l1 ≡ length side1 → length l2 ≡ length side2
           → Running bytes b held₀ side1₀ side2₀ answers₀ places₀ h l1 l2 (set answers done a.answer) (set places done a.place) a.book (used + a.length) (done + 1)
       running-one a h l1 l2 p n k0 k1 k2 =
-          let taken : a.length ≡ one.length = ap (λ (x : Stepped). x.length) p.0 in
-          let answered : a.answer ≡ one.outcome.answer = ap (λ (x : Stepped). x.answer) p.0 in
-          let placed : a.place ≡ one.outcome.place = ap (λ (x : Stepped). x.place) p.0 in
-          let book : a.book ≡ book_at now one.book = ap (λ (x : Stepped). x.book) p.0 in
+          let taken : a.length ≡ one.length = ap (λ (x : StepDone). x.length) p.0 in
+          let answered : a.answer ≡ one.outcome.answer = ap (λ (x : StepDone). x.answer) p.0 in
+          let placed : a.place ≡ one.outcome.place = ap (λ (x : StepDone). x.place) p.0 in
+          let book : a.book ≡ book_at now one.book = ap (λ (x : StepDone). x.book) p.0 in
           let after : book_of a.book h l1 l2 ≡ one.book =
           rw (book, p.1, p.2, p.3) (holds-book now one.book (step-moves-clock current (drop used bytes))) in
           let rest =

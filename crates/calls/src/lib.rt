@@ -5,9 +5,32 @@ pub mod gates; // gates.rt: closing the next gate
 pub mod notifications; // notifications.rt: a notification's answer, and what it writes
 pub mod nullifications; // nullifications.rt: blanking a pair
 pub mod packed; // packed.rt: a packed message, and a run of packed messages
+pub mod given; // given.rt: what C is given of each outcome
 mod sound_book; // sound_book.rt: what a book that is known to be sound does with a message
 
-// With a refusal the book is as it came.
+// An accepted notification.
+#[derive(Clone, Copy)]
+pub struct Accepted {
+    pub kind: limits::kinds::Kind,
+    pub slot: u16,
+}
+
+// What an accepted message did: what is told of it where it is a notification, and the book after it.
+#[derive(Clone, Copy)]
+pub struct Done {
+    pub notification: Option<Accepted>,
+    pub book: book::Book,
+}
+
+// A run of packed messages: how many were told their answer and place, how many bytes they took, and the book after them.
+#[derive(Clone, Copy)]
+pub struct Run {
+    pub done: usize,
+    pub used: usize,
+    pub book: book::Book,
+}
+
+// What C is given, here and below. With a refusal the book is as it came.
 #[repr(C)]
 #[derive(Clone, Copy)]
 pub struct Gated {
@@ -39,7 +62,8 @@ pub struct Applied {
     pub book: book::Book,
 }
 
-// How many answers were given, each with its place, how many bytes used, and the book after. With a refusal the counts are 0 and the book is as it came.
+// How many answers were given, each with its place, how many bytes used, and the book after. With a refusal the counts are 0 and the book is as it
+// came.
 #[repr(C)]
 #[derive(Clone, Copy)]
 pub struct AppliedAll {

@@ -1,21 +1,24 @@
-// A packed message done to a book, and a run of packed messages (meaning, PackedCalls.antt).
-ghost use Rattle.std.specs.Prelude.{true, ◌≡◌, min, length};
+// A packed message done to a book, and a run of packed messages (meaning, PackedCalls.antt). The tables that a call changes are lent apart (crate
+// book, `BookView`).
+ghost use Rattle.std.specs.Prelude.{true, ◌≡◌, ◌<◌, Ok, min, length, IfSome};
 ghost use Rattle.std.proofs.lemmas.List.Edits.{sets};
 ghost use Rattle.meaning.specs.Soundness.{sound};
 ghost use Rattle.meaning.specs.PackedCalls.{applied, stepped, answers_in, places_in, applied_all, run_answer, run_on};
+ghost use Rattle.message_checks.specs.Checks.{outcome_told};
 ghost use Rattle.book.specs.Structs.{book_of};
-ghost use Rattle.calls.specs.Answers.{applied_of, stepped_of, ran_of};
+ghost use Rattle.calls.specs.Answers.{applied_of, applied_seen, stepped_of, stepped_seen, ran_of, ran_seen};
 
-use crate::{Applied, AppliedAll, sound_book};
-use book::{Book, soundness};
-use limits::numbers;
+use crate::{Done, Run, sound_book};
+use book::{Book, BookView};
+use fields::AtFront;
+use limits::refusals::Refusal;
+use message_checks::Fault;
 
-// The place is that of the entry at fault, with 10 and 11. The length is 0 exactly where the bytes are unreadable.
+// What a step of a run did: what the message is told, how many bytes it takes, none where they are unreadable, and the book after it.
 #[derive(Clone, Copy)]
 struct Stepped {
-    answer: u8,
-    place: u8,
-    length: usize,
+    told: Result<(), Fault>,
+    taken: Option<usize>,
     book: Book,
 }
 
@@ -23,79 +26,86 @@ struct Stepped {
 fn step(b: Book, bytes: &[u8], held: &mut [u32], side1: &mut [i32], side2: &mut [i32]) -> Stepped
     requires { sound (book_of b held.old side1.old side2.old) ≡ true }
     ensures { let whole = stepped (book_of b held.old side1.old side2.old) bytes.now in
-        (result ≡ stepped_of b whole) × (held.new ≡ whole.book.ledger.held) × (side1.new ≡ whole.book.ledger.side1) × (side2.new ≡ whole.book.ledger.side2) }
+        (stepped_seen result ≡ stepped_of b whole) × (held.new ≡ whole.book.ledger.held) × (side1.new ≡ whole.book.ledger.side1) × (side2.new ≡ whole.book.ledger.side2) × IfSome result.taken (λ n. 0 < n) }
 {
-    let read = message_reading::read_message(bytes);
-    if read.answer != 0 {
-        return Stepped {
-            answer: read.answer,
-            place: 0,
-            length: 0,
+    match message_reading::read_message(bytes) {
+        Err(refusal) => Stepped {
+            told: Err(refusal.into()),
+            taken: None,
             book: b,
-        };
-    }
-    let m = read.message;
-    let done = sound_book::do_message(b, m, held, side1, side2);
-    let after = done.book;
-    Stepped {
-        answer: done.answer,
-        place: done.place,
-        length: read.length,
-        book: after,
-    }
-}
-
-// With a refusal the book is as it came, and every other result but the place, which is the refusal's, is 0.
-fn not_applied(b: Book, answer: u8, place: u8) -> Applied
-    ensures { result ≡ record { answer = answer; kind = 0; slot = 0; place = place; length = 0; book = b } }
-{
-    Applied {
-        answer: answer,
-        kind: 0,
-        slot: 0,
-        place: place,
-        length: 0,
-        book: b,
+        },
+        Ok(read) => {
+            let taken = Some(read.length);
+            match sound_book::do_message(b, read.value, held, side1, side2) {
+                Ok(done) => {
+                    let book = done.book;
+                    Stepped {
+                        told: Ok(()),
+                        taken,
+                        book,
+                    }
+                }
+                Err(fault) => Stepped {
+                    told: Err(fault),
+                    taken,
+                    book: b,
+                },
+            }
+        }
     }
 }
 
 // The message at the front of the bytes: refused by 1 before anything is read, then by reading, then by what the book answers. An accepted one
-// gives kind, slot and length, and the book and the tables after it.
+// gives its kind and slot, its length, and the book and the tables after it.
 pub fn apply(
     b: Book,
     bytes: &[u8],
     held: &mut [u32],
     side1: &mut [i32],
     side2: &mut [i32],
-) -> Applied
+) -> Result<AtFront<Done>, Fault>
     ensures { let whole = applied (book_of b held.old side1.old side2.old) bytes.now in
-        (result ≡ applied_of b whole) × (held.new ≡ whole.book.ledger.held) × (side1.new ≡ whole.book.ledger.side1) × (side2.new ≡ whole.book.ledger.side2) }
+        (applied_seen b result ≡ applied_of b whole) × (held.new ≡ whole.book.ledger.held) × (side1.new ≡ whole.book.ledger.side1) × (side2.new ≡ whole.book.ledger.side2) }
 {
-    let known = soundness::is_sound(b, held, side1, side2);
+    let view = BookView {
+        book: b,
+        held,
+        side1,
+        side2,
+    };
+    let known = view.is_sound();
     if !known {
-        return not_applied(b, numbers::NOT_SOUND, 0);
+        return Err(Refusal::NotSound.into());
     }
-    let read = message_reading::read_message(bytes);
-    if read.answer != 0 {
-        return not_applied(b, read.answer, 0);
-    }
-    let m = read.message;
-    let done = sound_book::do_message(b, m, held, side1, side2);
-    if done.answer != 0 {
-        return not_applied(b, done.answer, done.place);
-    }
-    let after = done.book;
-    Applied {
-        answer: 0,
-        kind: done.kind,
-        slot: done.slot,
-        place: 0,
+    let read = message_reading::read_message(bytes)?;
+    let done = sound_book::do_message(b, read.value, held, side1, side2)?;
+    Ok(AtFront {
         length: read.length,
-        book: after,
+        value: done,
+    })
+}
+
+// The answer number and the place that a message is told; both 0 where it is done.
+fn answer_told(told: Result<(), Fault>) -> u8
+    ensures { result ≡ (outcome_told told).answer }
+{
+    match told {
+        Ok(()) => 0,
+        Err(fault) => fault.refusal.into(),
     }
 }
 
-// A run on a book that is known to be sound: each accepted message keeps it so.
+fn place_told(told: Result<(), Fault>) -> u8
+    ensures { result ≡ (outcome_told told).place }
+{
+    match told {
+        Ok(()) => 0,
+        Err(fault) => fault.place,
+    }
+}
+
+// A run on a book that is known to be sound: each accepted message keeps it so. A `while`, since each message says
+// itself where the next begins. Answers and places are lent apart, as C has them.
 fn run_known(
     b: Book,
     bytes: &[u8],
@@ -104,36 +114,28 @@ fn run_known(
     side2: &mut [i32],
     answers: &mut [u8],
     places: &mut [u8],
-) -> AppliedAll
+) -> Run
     requires { sound (book_of b held.old side1.old side2.old) ≡ true }
     ensures { let whole = applied_all (min (length answers.old) (length places.old)) (book_of b held.old side1.old side2.old) bytes.now in
-        (result ≡ ran_of b 0 whole) × (held.new ≡ whole.book.ledger.held) × (side1.new ≡ whole.book.ledger.side1) × (side2.new ≡ whole.book.ledger.side2) × (answers.new ≡ sets answers.old 0 (answers_in whole.outcomes)) × (places.new ≡ sets places.old 0 (places_in whole.outcomes)) }
+        (ran_seen b (Ok result) ≡ ran_of b 0 whole) × (held.new ≡ whole.book.ledger.held) × (side1.new ≡ whole.book.ledger.side1) × (side2.new ≡ whole.book.ledger.side2) × (answers.new ≡ sets answers.old 0 (answers_in whole.outcomes)) × (places.new ≡ sets places.old 0 (places_in whole.outcomes)) }
 {
-    let mut after = b;
-    let mut used: usize = 0;
-    let mut done: usize = 0;
-    while (done < answers.len()) & (done < places.len()) & (used < bytes.len()) {
-        let one = step(after, &bytes[used..], held, side1, side2);
-        answers[done] = one.answer;
-        places[done] = one.place;
-        done += 1;
-        after = one.book;
-        if one.length == 0 {
-            return AppliedAll {
-                answer: 0,
-                done: done,
-                used: used,
-                book: after,
-            };
-        }
-        used += one.length;
+    let mut run = Run {
+        done: 0,
+        used: 0,
+        book: b,
+    };
+    while (run.done < answers.len()) & (run.done < places.len()) & (run.used < bytes.len()) {
+        let one = step(run.book, &bytes[run.used..], held, side1, side2);
+        answers[run.done] = answer_told(one.told);
+        places[run.done] = place_told(one.told);
+        run.done += 1;
+        run.book = one.book;
+        let Some(taken) = one.taken else {
+            return run;
+        };
+        run.used += taken;
     }
-    AppliedAll {
-        answer: 0,
-        done: done,
-        used: used,
-        book: after,
-    }
+    run
 }
 
 // A run of packed messages, one after the other, until the bytes end, one is unreadable or the answers or the places beside them have no more
@@ -146,18 +148,19 @@ pub fn apply_all(
     side2: &mut [i32],
     answers: &mut [u8],
     places: &mut [u8],
-) -> AppliedAll
+) -> Result<Run, Refusal>
     ensures { let before = book_of b held.old side1.old side2.old in
         let whole = run_on (min (length answers.old) (length places.old)) before bytes.now in
-        (result ≡ ran_of b (run_answer before) whole) × (held.new ≡ whole.book.ledger.held) × (side1.new ≡ whole.book.ledger.side1) × (side2.new ≡ whole.book.ledger.side2) × (answers.new ≡ sets answers.old 0 (answers_in whole.outcomes)) × (places.new ≡ sets places.old 0 (places_in whole.outcomes)) }
+        (ran_seen b result ≡ ran_of b (run_answer before) whole) × (held.new ≡ whole.book.ledger.held) × (side1.new ≡ whole.book.ledger.side1) × (side2.new ≡ whole.book.ledger.side2) × (answers.new ≡ sets answers.old 0 (answers_in whole.outcomes)) × (places.new ≡ sets places.old 0 (places_in whole.outcomes)) }
 {
-    if !soundness::is_sound(b, held, side1, side2) {
-        return AppliedAll {
-            answer: numbers::NOT_SOUND,
-            done: 0,
-            used: 0,
-            book: b,
-        };
+    let view = BookView {
+        book: b,
+        held,
+        side1,
+        side2,
+    };
+    if !view.is_sound() {
+        return Err(Refusal::NotSound);
     }
-    run_known(b, bytes, held, side1, side2, answers, places)
+    Ok(run_known(b, bytes, held, side1, side2, answers, places))
 }

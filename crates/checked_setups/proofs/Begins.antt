@@ -8,8 +8,12 @@ use denote.MutBor.{MutBor}
 use denote.Ref.{Bor}
 use lib.IntN.{ℤ}
 use lib.ListN.{length}
+use Rattle.std.specs.Prelude.{Result}
+use Rattle.fields.specs.declared.AtFront.{AtFront}
+use Rattle.limits.specs.declared.refusals.Refusal.{Refusal}
 use Rattle.setups.specs.declared.Setup.{Setup}
-use Rattle.book.specs.Answers.{opened, opened_packed}
+use Rattle.book.specs.Answers.{opened, opened_seen, opened_packed, opened_packed_seen}
+use Rattle.book.specs.declared.Book.{Book}
 use Rattle.book.specs.declared.Opened.{Opened}
 use Rattle.book.specs.declared.OpenedPacked.{OpenedPacked}
 use Rattle.book.proofs.UniqueState.{Opens}
@@ -21,13 +25,13 @@ use Rattle.checked_setups.proofs.Refused.{checked-reading-answer}
 use Rattle.checked_setups.proofs.opening.open_checked.Reads as open-checked
 use Rattle.checked_setups.proofs.reading.open_packed_checked.Reads as open-packed-checked
 
--- what is promised of the result and of the three tables
+-- what is promised of what is given of the outcome, and of the three tables
 abbrev pub OpensChecked : Setup → List ℕ → List ℤ → List ℤ → Opened → List ℕ → List ℤ → List ℤ → Type 0
 OpensChecked s held side1 side2 = OpensBy (checked_answer s held side1 side2) s held side1 side2
 
-pub open-checked-promises : (κs : Lfts 3) (s : Setup) (held held' : MutBor (List ℕ)) (side1 side1' side2 side2' : MutBor (List ℤ)) (r : Opened)
+pub open-checked-promises : (κs : Lfts 3) (s : Setup) (held held' : MutBor (List ℕ)) (side1 side1' side2 side2' : MutBor (List ℤ)) (r : Result Book Refusal)
     → open-checked.Post κs (s, (held, (side1, (side2, tt)))) r (s, (held', (side1', (side2', tt))))
-    → OpensChecked s held.now side1.now side2.now r held'.now side1'.now side2'.now
+    → OpensChecked s held.now side1.now side2.now (opened_seen r) held'.now side1'.now side2'.now
 open-checked-promises κs s held held' side1 side1' side2 side2' r p = p
 
 pub checked-is-open : (s : Setup) (held : List ℕ) (side1 side2 : List ℤ) (r : Opened) (h : List ℕ) (l1 l2 : List ℤ)
@@ -41,9 +45,9 @@ checked-is-open s held side1 side2 r h l1 l2 p accepted =
 abbrev pub OpensPackedChecked : List ℕ → List ℕ → List ℤ → List ℤ → OpenedPacked → List ℕ → List ℤ → List ℤ → Type 0
 OpensPackedChecked bytes held side1 side2 = OpensPackedBy (read_checked_setup bytes (length held) (length side1) (length side2)) held side1 side2
 
-pub open-packed-checked-promises : (κs : Lfts 4) (bytes bytes' : Bor (List ℕ)) (held held' : MutBor (List ℕ)) (side1 side1' side2 side2' : MutBor (List ℤ)) (r : OpenedPacked)
+pub open-packed-checked-promises : (κs : Lfts 4) (bytes bytes' : Bor (List ℕ)) (held held' : MutBor (List ℕ)) (side1 side1' side2 side2' : MutBor (List ℤ)) (r : Result (AtFront Book) Refusal)
     → open-packed-checked.Post κs (bytes, (held, (side1, (side2, tt)))) r (bytes', (held', (side1', (side2', tt))))
-    → OpensPackedChecked bytes.now held.now side1.now side2.now r held'.now side1'.now side2'.now
+    → OpensPackedChecked bytes.now held.now side1.now side2.now (opened_packed_seen r) held'.now side1'.now side2'.now
 open-packed-checked-promises κs bytes bytes' held held' side1 side1' side2 side2' r p = p
 
 pub checked-is-packed : (bytes held : List ℕ) (side1 side2 : List ℤ) (r : OpenedPacked) (h : List ℕ) (l1 l2 : List ℤ)

@@ -2,9 +2,11 @@
 use mathlib.Core.Bool.{Bool, true, not}
 use mathlib.Core.List.{List, ◌++◌}
 use mathlib.Core.Path.{◌≡◌, refl, sym, ap, ◌∙◌}
-use Prim.Native.Nat.{ℕ, ◌+◌, ◌≤◌}
+use Prim.Native.Nat.{ℕ, ◌+◌, ◌≤◌, ◌<◌}
 use lib.IntN.{ℤ}
 use lib.ListN.{length, get_or}
+use Rattle.std.specs.Prelude.{Result, Ok}
+use Rattle.limits.specs.declared.refusals.Refusal.{Refusal}
 use Rattle.words.specs.Tests.{◌=?◌}
 use Rattle.words.specs.Below.{some_below}
 use Rattle.words.specs.Rules.{Rule, answer}
@@ -18,12 +20,14 @@ use Rattle.meaning.proofs.SetupRules.{opens}
 use Rattle.setups.specs.Structs.{codes_of, setup_of}
 use Rattle.setups.specs.declared.Setup.{Setup}
 use Rattle.setups.proofs.SetupHeld.{codes-own}
-use Rattle.setup_reading.specs.Parts.{content_in}
-use Rattle.setup_reading.specs.declared.Content.{Content}
+use Rattle.setup_reading.specs.Parts.{setup_struct_in}
 use Rattle.setup_reading.proofs.ReadParts.{bounds-passed}
-use Rattle.setup_reading.proofs.ContentLaws.{content-setup}
 use Rattle.book.proofs.OpeningLaws.{opening_answer}
 use Rattle.calendar.specs.Calendar.{some_day_outside, code_of}
+use Rattle.calendar.specs.Answers.{coded}
+use Rattle.calendar.specs.Outcomes.{as_coded}
+use Rattle.calendar.proofs.Years.{below-day}
+use Rattle.calendar.proofs.Outcomes.{coded-tells}
 use Rattle.checked_setups.specs.Checked.{some_code_disagrees, calendar_rules, checked_opening_rules, checked_reading_rules, read_checked_setup}
 
 -- ---- the calendar's rules, asked of the struct
@@ -49,6 +53,11 @@ module _ (s : Setup) where
       let o = opens (setup_of s) slots lent1 lent2 e in
       (rw (codes-own s.days s.codes) at o.some-day, rw (codes-own s.days s.codes) at o.few-days)
 
+-- the code that a day of the calendar is given
+pub coded-is : (n : ℕ) (r : Result ℕ Refusal) → n < 36525 → as_coded r ≡ coded n → r ≡ Ok (code_of n)
+unfolding coded
+coded-is n r h e = coded-tells r (Ok (code_of n)) (e ∙ rw (below-day n h))
+
 pub calendar-numbered : (s : Books.Setup) → numbered (calendar_rules s) ≡ true
 unfolding calendar_rules
 calendar-numbered s = refl
@@ -62,14 +71,14 @@ module _ (bytes : List ℕ) (slots lent1 lent2 : ℕ) (passes : answer (content_
       let none = answer-none (content_rules bytes slots lent1 lent2) refl passes in
       rw (none 1, none 3, none 4)
 
-  module _ (t : Content) (e : t ≡ content_in bytes slots lent1 lent2) where
-    pub content-held : setup_of t.setup ≡ setup_in bytes
+  module _ (s : Setup) (e : s ≡ setup_struct_in bytes) where
+    pub content-held : setup_of s ≡ setup_in bytes
     content-held =
-        bounds-passed bytes slots lent1 lent2 t.setup (content-setup bytes slots lent1 lent2 t e)
+        bounds-passed bytes slots lent1 lent2 s e
         (answer-none (content_rules bytes slots lent1 lent2) refl passes 1)
 
-    pub content-counted : (1 ≤ t.setup.days) × (t.setup.days ≤ 8)
-    content-counted = days-counted t.setup slots lent1 lent2 (rw content-held content-opens)
+    pub content-counted : (1 ≤ s.days) × (s.days ≤ 8)
+    content-counted = days-counted s slots lent1 lent2 (rw content-held content-opens)
 
 -- ---- what passes the checks passes without them
 

@@ -5,7 +5,8 @@ ghost use Rattle.std.specs.Prelude.{◌≡◌};
 ghost use Rattle.meaning.specs.Time.{periods_of_code, periods_at, is_period_at, gates_before, is_open_at, has_day, every_gate_closed, current_day};
 ghost use Rattle.clock.specs.Structs.{time_of};
 
-// The number of the first day, the first `days` codes, and the number of gates closed.
+// The number of the first day, the first `days` codes, and the number of gates closed. There is no heap, so the codes stand in an array of the most days,
+// their number beside it.
 #[repr(C)]
 #[derive(Clone, Copy)]
 pub struct Clock {
@@ -31,10 +32,7 @@ pub fn periods_of(code: u8) -> u8
 pub fn periods_at(c: Clock, d: u8) -> u8
     ensures { result ≡ periods_at (time_of c).codes d }
 {
-    if c.days <= d {
-        return periods_of(0);
-    }
-    if limits::MOST_DAYS <= d {
+    if c.days.min(limits::MOST_DAYS) <= d {
         return periods_of(0);
     }
     periods_of(c.codes[d as usize])
@@ -45,10 +43,8 @@ pub fn gates_before(c: Clock, d: u8) -> u16
     ensures { result ≡ gates_before (time_of c).codes d }
 {
     let mut gates: u16 = 0;
-    let mut k: u8 = 0;
-    while k < d {
+    for k in 0..d {
         gates += periods_at(c, k) as u16;
-        k += 1;
     }
     gates
 }
@@ -66,7 +62,7 @@ pub fn is_period_at(c: Clock, d: u8, period: u8) -> bool
     ensures { result ≡ is_period_at (time_of c).codes d period }
 {
     let periods = periods_at(c, d);
-    (d < c.days) & ((1 <= period) & (period <= periods))
+    d < c.days && (1..=periods).contains(&period)
 }
 
 pub fn every_gate_closed(c: Clock) -> bool
@@ -80,13 +76,11 @@ pub fn every_gate_closed(c: Clock) -> bool
 pub fn current_day(c: Clock) -> u32
     ensures { result ≡ current_day (time_of c) }
 {
-    let mut d: u8 = 0;
-    while d < c.days {
+    for d in 0..c.days {
         let gates = gates_before(c, d + 1);
         if c.closed < gates {
             return c.first as u32 + d as u32;
         }
-        d += 1;
     }
     c.first as u32 + c.days as u32
 }
@@ -95,8 +89,5 @@ pub fn current_day(c: Clock) -> u32
 pub fn has_day(c: Clock, day: u16) -> bool
     ensures { result ≡ has_day (time_of c) day }
 {
-    if day < c.first {
-        return false;
-    }
-    day - c.first < c.days as u16
+    c.first <= day && day - c.first < c.days as u16
 }

@@ -1,4 +1,4 @@
--- Laws of written texts and of sizes; and that no two outcomes meet one promise.
+-- Laws of digits and of written texts; and that no two outcomes meet one promise.
+pub mod Digits
 pub mod Texts
-pub mod Sizes
 pub mod Unique

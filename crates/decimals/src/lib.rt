@@ -1,5 +1,6 @@
 // Words and decimal numbers as ASCII bytes in a lent buffer, from a place `at` on. Each answers the place after its text; where there is no room for the
-// whole of it, nothing is written and the place stays.
+// whole of it, nothing is written and the place stays. The buffer and the place are two parameters: a struct that holds the `&mut` needs in each method a
+// clause that it is still the same loan.
 #![tactic(auto)]
 
 ghost use Rattle.std.specs.Prelude.{◌≡◌, ◌+◌, ◌%◌, nat_abs, length};
@@ -8,16 +9,11 @@ ghost use Rattle.decimals.specs.Texts.{has_room, Put};
 
 const ZERO: u8 = b'0';
 
-const LEAST: i64 = -9223372036854775808;
-
 // Whether a buffer of this size has so many bytes from `at` on. The sum of the two may not fit, so the machine subtracts.
 pub fn has_room(size: usize, at: usize, bytes: usize) -> bool
     ensures { result ≡ has_room size at bytes }
 {
-    if size < at {
-        return false;
-    }
-    bytes <= size - at
+    at <= size && bytes <= size - at
 }
 
 // Writes the bytes of a word.
@@ -27,25 +23,16 @@ pub fn put_word(out: &mut [u8], at: usize, word: &[u8]) -> usize
     if !has_room(out.len(), at, word.len()) {
         return at;
     }
-    let mut k: usize = 0;
-    while k < word.len() {
-        out[at + k] = word[k];
-        k += 1;
-    }
-    at + k
+    let after = at + word.len();
+    out[at..after].copy_from_slice(word);
+    after
 }
 
 // How many decimal digits a number has.
 fn digit_count(number: u64) -> usize
     ensures { result ≡ length (decimal number) }
 {
-    let mut count: usize = 1;
-    let mut rest = number;
-    while 10 <= rest {
-        rest = rest / 10;
-        count += 1;
-    }
-    count
+    number.checked_ilog10().unwrap_or(0) as usize + 1
 }
 
 // The last digit of a number, in ASCII.
@@ -64,26 +51,17 @@ pub fn put_decimal(out: &mut [u8], at: usize, number: u64) -> usize
         return at;
     }
     let after = at + count;
-    let mut place = after - 1;
     let mut rest = number;
-    while 10 <= rest {
+    for place in (at..after).rev() {
         out[place] = last_digit(rest);
-        rest = rest / 10;
-        place -= 1;
+        rest /= 10;
     }
-    out[place] = last_digit(rest);
     after
 }
 
-// The size of a number, whatever its sign. The least one cannot be negated: its size fits only without a sign.
+// The size of a number, whatever its sign.
 pub fn size(x: i64) -> u64
     ensures { result ≡ nat_abs x }
 {
-    if x == LEAST {
-        return 9223372036854775808;
-    }
-    if x < 0 {
-        return (-x) as u64;
-    }
-    x as u64
+    x.unsigned_abs()
 }

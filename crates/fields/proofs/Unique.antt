@@ -9,6 +9,8 @@ use Rattle.fields.proofs.write_fields.Reads as write-fields
 use Rattle.fields.proofs.volume_of_bits.Reads as volume-of-bits
 use Rattle.fields.proofs.volume_fits.Reads as volume-fits
 use Rattle.fields.proofs.bits_of_volume.Reads as bits-of-volume
+use Rattle.fields.proofs.whole_bits.bytes_of.Reads as bytes-of
+use Rattle.fields.proofs.whole_bits.padding_of.Reads as padding-of
 
 pub unique-read-field : OneResult read-field.Post
 unique-read-field κs a r r' s s' = one-outcome
@@ -33,3 +35,9 @@ unique-volume-fits κs a r r' s s' = one-outcome
 
 pub unique-bits-of-volume : OneResult bits-of-volume.Post
 unique-bits-of-volume κs a r r' s s' = one-outcome
+
+pub unique-bytes-of : OneResult bytes-of.Post
+unique-bytes-of κs a r r' s s' = one-outcome
+
+pub unique-padding-of : OneResult padding-of.Post
+unique-padding-of κs a r r' s s' = one-outcome

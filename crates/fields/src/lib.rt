@@ -2,12 +2,16 @@
 // writes at most 64 fields. Past the end of the bytes a bit is 0, and writing one changes nothing, so no caller owes an index.
 #![tactic(auto)]
 
+pub mod whole_bits; // whole_bits.rt: how many bytes so many bits take
 mod whole_bytes; // whole_bytes.rt: one field, by whole bytes joined and cut
 
 ghost use Rattle.std.specs.Prelude.{◌≡◌, ◌+◌, ◌%◌, ◌<◌, ◌^◌, min};
 ghost use Rattle.std.specs.Int.Signed.{mag};
 ghost use Rattle.words.specs.Fields.{field_at, set_field, fits_signed, signed_of, bits_of};
+ghost use Rattle.fields.specs.Fronts.{written_as};
 ghost use Rattle.fields.specs.Narrow.{narrow, fewest, read_into, write_from, volume_bits};
+
+use limits::refusals::Refusal;
 
 const WIDEST_FIELD: usize = 32;
 
@@ -27,25 +31,47 @@ const VOLUME_HALF: i32 = VOLUMES_BELOW_ZERO as i32;
 
 const VOLUME_LEAST: i32 = -134217728;
 
+// What stands at the front of packed bytes: the value, and how many bytes it takes.
+#[derive(Clone, Copy)]
+pub struct AtFront<T> {
+    pub length: usize,
+    pub value: T,
+}
+
+// What C is given of what was written at the front of a buffer: 0 beside how many bytes that are, or the refusal's number and no length.
+#[repr(C)]
+#[derive(Clone, Copy)]
+pub struct WrittenBytes {
+    pub answer: u8,
+    pub length: usize,
+}
+
+impl From<Result<usize, Refusal>> for WrittenBytes {
+    ghost from_gives = { λ outcome written. written ≡ written_as outcome };
+
+    fn from(outcome: Result<usize, Refusal>) -> WrittenBytes {
+        match outcome {
+            Ok(length) => WrittenBytes { answer: 0, length },
+            Err(refusal) => WrittenBytes {
+                answer: refusal.into(),
+                length: 0,
+            },
+        }
+    }
+}
+
 // A width, at most 32.
 fn narrowed(width: u8) -> usize
     ensures { result ≡ narrow width }
 {
-    lesser(width as usize, WIDEST_FIELD)
-}
-
-// The lesser of two numbers.
-fn lesser(a: usize, b: usize) -> usize
-    ensures { result ≡ min a b }
-{
-    if a < b { a } else { b }
+    (width as usize).min(WIDEST_FIELD)
 }
 
 // How many fields a call takes of two lists, at most 64.
 fn fewest_of(a: usize, b: usize) -> usize
     ensures { result ≡ fewest a b }
 {
-    lesser(lesser(MOST_FIELDS, a), b)
+    MOST_FIELDS.min(a).min(b)
 }
 
 // The field of `width` bits, at most 32, from bit `at` on.
@@ -60,7 +86,7 @@ pub fn read_field(src: &[u8], at: u32, width: u8) -> u32
 pub fn read_long(src: &[u8], at: u32, width: u8) -> u64
     ensures { result ≡ field_at src.now at (min width 56) }
 {
-    let w = lesser(width as usize, LONGEST_FIELD);
+    let w = (width as usize).min(LONGEST_FIELD);
     whole_bytes::read_long(src, at as usize, w)
 }
 
@@ -78,12 +104,10 @@ pub fn read_fields(src: &[u8], at: u32, widths: &[u8], out: &mut [u32])
 {
     let n = fewest_of(widths.len(), out.len());
     let mut p = at as usize;
-    let mut i: usize = 0;
-    while i < n {
-        let w = narrowed(widths[i]);
-        out[i] = whole_bytes::read_bits(src, p, w);
+    for (k, width) in widths[..n].iter().enumerate() {
+        let w = narrowed(*width);
+        out[k] = whole_bytes::read_bits(src, p, w);
         p += w;
-        i += 1;
     }
 }
 
@@ -93,12 +117,10 @@ pub fn write_fields(dst: &mut [u8], at: u32, widths: &[u8], values: &[u32])
 {
     let n = fewest_of(widths.len(), values.len());
     let mut p = at as usize;
-    let mut i: usize = 0;
-    while i < n {
-        let w = narrowed(widths[i]);
-        whole_bytes::write_bits(dst, p, w, values[i]);
+    for (k, width) in widths[..n].iter().enumerate() {
+        let w = narrowed(*width);
+        whole_bytes::write_bits(dst, p, w, values[k]);
         p += w;
-        i += 1;
     }
 }
 
@@ -133,7 +155,8 @@ pub fn bits_of_volume(z: i32) -> u32
     ensures { result ≡ volume_bits z }
 {
     if volume_fits(z) {
-        return bits_of_fitting(z);
+        bits_of_fitting(z)
+    } else {
+        0
     }
-    0
 }

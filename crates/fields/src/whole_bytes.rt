@@ -1,6 +1,7 @@
 // A field read and written by whole bytes: the bytes that hold it are joined to one word, the first of them at its top, and the field is cut out of
 // the word by shift and mask. To write it, the word is made with the field in it and cut into its bytes again, so that the bytes at both ends keep
-// their other bits. A byte past the end is 0, and writing one changes nothing.
+// their other bits. A byte past the end is 0, and writing one changes nothing. A place and a width stay two parameters, with what they owe: a struct of
+// the two would be made anew for each field.
 ghost use Rattle.std.specs.Prelude.{◌≡◌, ◌+◌, ◌*◌, ◌/◌, ◌%◌, ◌≤◌, ◌<◌, ◌^◌, length, get_or, set};
 ghost use Rattle.words.specs.Fields.{field_at, set_field};
 
@@ -21,13 +22,10 @@ fn cut(word: u64, below: u32, width: u32) -> u64
 }
 
 // Byte i, 0 past the end.
-fn byte(src: &[u8], i: usize) -> u64
-    ensures { (result ≡ get_or src.now i 0) × (result < 256) }
+fn byte(src: &[u8], i: usize) -> u8
+    ensures { result ≡ get_or src.now i 0 }
 {
-    if i < src.len() {
-        return src[i] as u64;
-    }
-    0
+    src.get(i).copied().unwrap_or(0)
 }
 
 // `count` bytes from byte `first` on, joined.
@@ -36,10 +34,8 @@ fn joined(src: &[u8], first: usize, count: usize) -> u64
     ensures { result ≡ field_at src.now (first * 8) (count * 8) }
 {
     let mut word: u64 = 0;
-    let mut n: usize = 0;
-    while n < count {
-        word = join(word, byte(src, first + n), 8);
-        n += 1;
+    for n in 0..count {
+        word = join(word, byte(src, first + n) as u64, 8);
     }
     word
 }
@@ -68,13 +64,7 @@ fn eight_bytes(src: &[u8], first: usize) -> u64
     requires { first + 8 ≤ length src.now }
     ensures { result ≡ field_at src.now (first * 8) 64 }
 {
-    let mut word: u64 = 0;
-    let mut n: usize = 0;
-    while n < 8 {
-        word = join(word, src[first + n] as u64, 8);
-        n += 1;
-    }
-    word
+    u64::from_be_bytes(src[first..first + 8].try_into().unwrap())
 }
 
 // The field of `width` bits, at most 56, from bit `at` on. The eight bytes that end with its last one hold it too, and in a message they are there for
@@ -102,7 +92,7 @@ fn made_in(word: u64, below: u32, width: u32, value: u32) -> u64
     join(join(before, field, width), behind, below)
 }
 
-// Byte i made x; nothing past the end.
+// Byte i made x; nothing past the end. By its index: of what is written through the library's `get_mut` of a slice a proof knows nothing.
 fn put_byte(dst: &mut [u8], i: usize, x: u8)
     ensures { dst.new ≡ set dst.old i x }
 {
@@ -116,11 +106,9 @@ fn put_bytes(dst: &mut [u8], first: usize, count: usize, word: u64)
     requires { (count ≤ 8) × (first + 8 < 2 ^ 64) }
     ensures { dst.new ≡ set_field dst.old (first * 8) (count * 8) word }
 {
-    let mut n: usize = 0;
-    while n < count {
+    for n in 0..count {
         let below = ((count - 1 - n) * 8) as u32;
         put_byte(dst, first + n, cut(word, below, 8) as u8);
-        n += 1;
     }
 }
 

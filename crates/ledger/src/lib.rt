@@ -3,7 +3,7 @@
 
 pub mod slots; // slots.rt: the identifier that a slot holds, and the slot of an identifier
 
-ghost use Rattle.std.specs.Prelude.{◌≡◌, suc, ◌-◌, min, get_or, replicate};
+ghost use Rattle.std.specs.Prelude.{◌≡◌, suc, get_or, replicate};
 ghost use Rattle.std.proofs.lemmas.List.Edits.{sets};
 ghost use Rattle.meaning.specs.Ledgers.{contracts, index, stands, the_mark};
 
@@ -28,47 +28,23 @@ pub fn states(v: i32) -> bool
 pub fn volume_at(side: &[i32], place: usize) -> i32
     ensures { result ≡ get_or side.now place the_mark }
 {
-    if place < side.len() {
-        return side[place];
-    }
-    MARK
-}
-
-// How many of `count` places from `at` on are inside a table of this length.
-fn inside(length: usize, at: usize, count: usize) -> usize
-    ensures { result ≡ min count (length - at) }
-{
-    if length < at {
-        return 0;
-    }
-    let left = length - at;
-    if count < left {
-        return count;
-    }
-    left
+    side.get(place).copied().unwrap_or(MARK)
 }
 
 // The values stored from place `at` on, one after the other; a place past the end stores nothing.
 pub fn store_run(side: &mut [i32], at: usize, values: &[i32])
     ensures { side.new ≡ sets side.old at values.now }
 {
-    let n = inside(side.len(), at, values.len());
-    let mut k: usize = 0;
-    while k < n {
-        let v = values[k];
-        side[at + k] = v;
-        k += 1;
-    }
+    let from = at.min(side.len());
+    let n = values.len().min(side.len() - from);
+    side[from..from + n].copy_from_slice(&values[..n]);
 }
 
 // The mark stored at `count` places from place `at` on; a place past the end stores nothing.
 pub fn blank_run(side: &mut [i32], at: usize, count: usize)
     ensures { side.new ≡ sets side.old at (replicate count the_mark) }
 {
-    let n = inside(side.len(), at, count);
-    let mut k: usize = 0;
-    while k < n {
-        side[at + k] = MARK;
-        k += 1;
-    }
+    let from = at.min(side.len());
+    let n = count.min(side.len() - from);
+    side[from..from + n].fill(MARK);
 }

@@ -17,24 +17,14 @@ pub fn entry_of(originator: u8, reference: u16) -> u32
 pub fn originator_of(entry: u32) -> u32
     ensures { result ≡ originator_of (entry - 1) }
 {
-    if entry == 0 {
-        return 0;
-    }
-    (entry - 1) / REFERENCES
+    entry.saturating_sub(1) / REFERENCES
 }
 
 // The first slot whose entry is this one; the number of slots where none is.
 fn slot_with(held: &[u32], entry: u32) -> usize
     ensures { result ≡ find entry held.now }
 {
-    let mut k: usize = 0;
-    while k < held.len() {
-        if held[k] == entry {
-            return k;
-        }
-        k += 1;
-    }
-    k
+    held.iter().position(|e| *e == entry).unwrap_or(held.len())
 }
 
 // The slot that holds an identifier; the number of slots where none does.

@@ -22,35 +22,26 @@ fn is_right(v: i32) -> bool
 pub fn all_blank(part: &[i32]) -> bool
     ensures { result ≡ every_below (length part.now) (λ (k : ℕ). blank (get_or part.now k the_mark)) }
 {
-    let mut ok = true;
-    for k in 0..part.len() {
-        ok = ok & (part[k] == ledger::MARK);
-    }
-    ok
+    part.iter()
+        .copied()
+        .fold(true, |ok, v| ok & (v == ledger::MARK))
 }
 
 // Each place of the part holds the mark or a volume in range.
 pub fn all_right(part: &[i32]) -> bool
     ensures { result ≡ every_below (length part.now) (λ (k : ℕ). right (get_or part.now k the_mark)) }
 {
-    let mut ok = true;
-    for k in 0..part.len() {
-        let v = part[k];
-        ok = ok & is_right(v);
-    }
-    ok
+    part.iter().copied().fold(true, |ok, v| ok & is_right(v))
 }
 
 // Nothing stands in the part from place `from` on.
 fn blank_from(part: &[i32], from: usize) -> bool
     ensures { result ≡ every_below (length part.now) (λ (k : ℕ). k <? from || blank (get_or part.now k the_mark)) }
 {
-    let mut ok = true;
-    for k in 0..part.len() {
-        let v = part[k];
-        ok = ok & ((k < from) | (v == ledger::MARK));
-    }
-    ok
+    part.iter()
+        .copied()
+        .enumerate()
+        .fold(true, |ok, (k, v)| ok & ((k < from) | (v == ledger::MARK)))
 }
 
 // One day of a slot: a held slot's periods are right, and all else is blank. Only the last four places can be past a day's length, so that all 50 are
@@ -71,11 +62,7 @@ fn row_right(side: &[i32], base: usize, periods: usize, held: bool) -> bool
 fn none_holds(part: &[u32], entry: u32) -> bool
     ensures { result ≡ every_below (length part.now) (λ (k : ℕ). other entry (get_or part.now k 0)) }
 {
-    let mut ok = true;
-    for k in 0..part.len() {
-        ok = ok & (part[k] != entry);
-    }
-    ok
+    part.iter().copied().fold(true, |ok, v| ok & (v != entry))
 }
 
 // The slot is unheld, or its identifier names a known originator and stands in no slot before.
@@ -97,7 +84,7 @@ pub fn held_right(held: &[u32], known: usize) -> bool
 {
     let mut ok = true;
     for k in 0..held.len() {
-        ok = ok & slot_right(held, known, k);
+        ok &= slot_right(held, known, k);
     }
     ok
 }
@@ -109,12 +96,10 @@ fn days_right(side: &[i32], slot: u8, held: bool, c: clock::Clock) -> bool
 {
     let codes = c.codes; // copied once a slot: a field indexed by a variable is copied whole each time
     let mut ok = true;
-    let mut d: u8 = 0;
-    while d < c.days {
+    for d in 0..c.days {
         let base = ledger::place_of(slot, c.days, d, 0);
         let periods = clock::periods_of(codes[d as usize]) as usize;
-        ok = ok & row_right(side, base, periods, held);
-        d += 1;
+        ok &= row_right(side, base, periods, held);
     }
     ok
 }
@@ -134,11 +119,8 @@ pub fn side_right(side: &[i32], held: &[u32], c: clock::Clock) -> bool
         return false;
     }
     let mut ok = true;
-    let mut s: usize = 0;
-    while s < held.len() {
-        let entry = held[s];
-        ok = ok & days_right(side, s as u8, entry != 0, c);
-        s += 1;
+    for (slot, entry) in held.iter().enumerate() {
+        ok &= days_right(side, slot as u8, *entry != 0, c);
     }
     ok
 }

@@ -1,7 +1,7 @@
-// The limits of document 01, and A1's and A5's of document 02, each once and by name; the answer numbers beside them. A name in _WIDE is the same limit in a wider type.
+// The limits of document 01, and A1's and A5's of document 02, each once and by name; refusals and kinds beside them. A name in _WIDE is the same limit in a wider type.
 #![tactic(auto)]
 
-pub mod numbers; // numbers.rt: the answer numbers
+pub mod refusals; // refusals.rt: why a request is refused, and the number that C is given
 pub mod kinds; // kinds.rt: the numbers of kinds and types
 
 // "A book covers 1 to 8 consecutive settlement days"

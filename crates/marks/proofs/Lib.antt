@@ -4,6 +4,7 @@ pub mod PlaceLaws
 pub mod MarkLaws
 pub mod MarkPlaces
 pub mod DayMarkLaws
+pub mod SameOutcomes
 pub mod Promises
 pub mod MarkTheorems
 pub mod UniqueMarks

@@ -15,8 +15,7 @@ use Rattle.meaning.specs.Bars as Meaning
 use Rattle.meaning.proofs.Bars as Bars
 use Rattle.bar.specs.Figures.{bar_for, bar_seen}
 use Rattle.bar.specs.declared.Bar.{Bar}
-use Rattle.marks.specs.Marks.{refused_mark, marked, asking_rules}
-use Rattle.marks.specs.declared.Marked.{Marked}
+use Rattle.marks.specs.Marks.{Marked, refused_mark, marked, asking_rules}
 use Rattle.bar.specs.declared.Bar.TheVariants.{Blank}
 
 module _ (b : Book contracts) (i account : ℕ) where

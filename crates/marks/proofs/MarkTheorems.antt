@@ -22,9 +22,8 @@ use Rattle.meaning.proofs.Figures.{zero-positive}
 use Rattle.book.specs.declared.Book.{Book}
 use Rattle.book.specs.Structs.{book_of}
 use Rattle.bar.specs.Figures.{bar_for, no_figure, first_of, second_of}
-use Rattle.marks.specs.Marks.{marked, day_mark_rules}
+use Rattle.marks.specs.Marks.{Marked, marked, day_mark_rules}
 use Rattle.bar.specs.declared.Bar.TheVariants.{Blank, Agreed}
-use Rattle.marks.specs.declared.Marked.{Marked}
 use Rattle.marks.proofs.RowLaws.{before, start, long, some-long, row_inside, row_answer, Shown, shown, row-refused}
 use Rattle.marks.proofs.MarkLaws.{mark-refused}
 use Rattle.figures.proofs.MwhLaws.{mwh-negated, some-not-zero, zero-not-negative, no-negative-zero}

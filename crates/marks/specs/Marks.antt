@@ -1,8 +1,10 @@
 -- Document 01, "Matching, totals, marks": the mark of a period, and the marks of a whole day.
-use Rattle.std.specs.Prelude.{not, ◌||◌, List, ◌++◌, ℕ, suc, ◌+◌, ℤ, get_or, if◌then◌else◌}
+use Rattle.std.specs.Prelude.{not, ◌||◌, List, ◌++◌, ℕ, suc, ◌+◌, ℤ, get_or, Result, Ok, Err, if◌then◌else◌}
 use Rattle.words.specs.Tests.{◌<?◌, ◌=?◌}
 use Rattle.words.specs.Lists.{on_front}
 use Rattle.words.specs.Rules.{Rule, ◌when◌else◌, done, answer}
+use Rattle.limits.specs.declared.refusals.Refusal.{Refusal}
+use Rattle.limits.specs.Refusals.{number_of}
 use Rattle.meaning.specs.Time.{periods_on, has_day}
 use Rattle.meaning.specs.Authorisations.{Authorisation}
 use Rattle.meaning.specs.Ledgers.{contracts, the_mark}
@@ -12,13 +14,22 @@ use Rattle.meaning.specs.Bars as Meaning
 use Rattle.bar.specs.Figures.{bar_for, bar_seen}
 use Rattle.bar.specs.declared.Bar.{Bar}
 use Rattle.bar.specs.declared.Bar.TheVariants.{Blank}
-use Rattle.marks.specs.declared.Marked.{Marked}
 
 -- ---- a mark
+
+-- an answer number beside a bar
+pub record Marked : Type 0 where
+  pub answer : ℕ
+  pub bar : Bar
 
 -- a refusal's "other results are .. the blank mark"
 abbrev pub refused_mark : ℕ → Marked
 refused_mark n = record { answer = n; bar = Blank }
+
+-- what is told of a mark that may be refused. Two outcomes of which the same is told are the same (`same_mark`, proofs/SameOutcomes.antt).
+abbrev pub marked_of : Result Bar Refusal → Marked
+marked_of (Ok bar) = record { answer = 0; bar = bar }
+marked_of (Err refusal) = refused_mark (number_of refusal)
 
 unfoldable pub marked : Book contracts → ℕ → ℕ → ℕ → ℕ → Marked
 marked b i account D period =

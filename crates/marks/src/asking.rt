@@ -2,55 +2,49 @@
 ghost use Rattle.std.specs.Prelude.{◌&&◌, ◌≡◌};
 ghost use Rattle.words.specs.Tests.{◌<?◌};
 ghost use Rattle.words.specs.Rules.{answer};
+ghost use Rattle.limits.specs.Refusals.{answer_of};
 ghost use Rattle.meaning.specs.Time.{is_period};
 ghost use Rattle.meaning.specs.Authorisations.{row_at, in_pair};
 ghost use Rattle.meaning.specs.Ledgers.{identifier_of};
-ghost use Rattle.book.specs.Structs.{time_in, rows_in, book_of};
+ghost use Rattle.book.specs.Structs.{time_in, rows_in, book_seen};
 ghost use Rattle.marks.specs.Marks.{asking_rules};
 
-use crate::rows;
-use book::{soundness, state};
-use limits::numbers;
+use crate::rows::BookDay;
+use book::{BookView, state};
+use limits::refusals::Refusal;
 
 // The account is in the book and in the pair of the originating authorisation.
 fn may_ask(b: book::Book, originator: u8, account: u8) -> bool
     ensures { result ≡ (account <? b.setup.accounts && in_pair (row_at (rows_in b.setup) originator) account) }
 {
-    let s = b.setup;
     let row = state::row_of(b, originator as u32);
-    (account < s.accounts) & figures::in_pair(row, account)
+    (account < b.setup.accounts) & figures::in_pair(row, account)
 }
 
 pub(crate) fn is_period(b: book::Book, day: u16, period: u8) -> bool
     ensures { result ≡ is_period (time_in b) day period }
 {
     let c = state::clock_of(b);
-    if !clock::has_day(c, day) {
-        return false;
-    }
-    clock::is_period_at(c, rows::day_of(b, day), period)
+    clock::has_day(c, day) && clock::is_period_at(c, BookDay { book: b, day }.place(), period)
 }
 
-// 1, 25 and 15: the refusals that speak of no day.
+// NotSound, NotHeld and NoSuchAccount: the refusals that speak of no day.
 pub(crate) fn asking_refusal(
-    b: book::Book,
-    held: &[u32],
-    side1: &[i32],
-    side2: &[i32],
+    view: BookView<'_>,
     originator: u8,
     reference: u16,
     account: u8,
-) -> u8
-    ensures { result ≡ answer (asking_rules (book_of b held.now side1.now side2.now) (identifier_of originator reference) account) }
+) -> Result<(), Refusal>
+    ensures { answer_of result ≡ answer (asking_rules (book_seen view.entry) (identifier_of originator reference) account) }
 {
-    if !soundness::is_sound(b, held, side1, side2) {
-        return numbers::NOT_SOUND;
+    if !view.is_sound() {
+        return Err(Refusal::NotSound);
     }
-    if held.len() <= ledger::slots::slot_of(held, originator, reference) {
-        return numbers::NOT_HELD;
+    if view.held.len() <= ledger::slots::slot_of(view.held, originator, reference) {
+        return Err(Refusal::NotHeld);
     }
-    if !may_ask(b, originator, account) {
-        return numbers::NO_SUCH_ACCOUNT;
+    if !may_ask(view.book, originator, account) {
+        return Err(Refusal::NoSuchAccount);
     }
-    0
+    Ok(())
 }

@@ -1,19 +1,20 @@
 -- The rules of a message beside soundness: meaning's parts, joined by what they read.
-use Rattle.std.specs.Prelude.{◌&&◌, List, ◌++◌, ℕ}
+use Rattle.std.specs.Prelude.{◌&&◌, List, ◌++◌, ℕ, Result, Ok, Err}
 use Rattle.words.specs.Tests.{◌≤?◌, ◌=?◌}
-use Rattle.words.specs.Rules as Rules
-use Rattle.words.specs.Rules.{Rule, ◌when◌else◌, done}
+use Rattle.words.specs.Rules.{Rule, ◌when◌else◌, done, Outcome, placeless}
 use Rattle.meaning.specs.Settings.{Setting}
 use Rattle.meaning.specs.Ledgers.{Sort}
 use Rattle.meaning.specs.Messages.{Notification, Nullification}
 use Rattle.meaning.specs.Refusals.{while_open}
 use Rattle.meaning.specs.Notifications.{authorisation_rules, day_rules, entry_rules}
 use Rattle.meaning.specs.Calls.{pair_rules}
-use Rattle.message_checks.specs.declared.Outcome.{Outcome}
+use Rattle.limits.specs.Refusals.{number_of}
+use Rattle.message_checks.specs.declared.Fault.{Fault}
 
--- an outcome, as the code has it
-abbrev pub outcome_of : Rules.Outcome → Outcome
-outcome_of o = record { answer = o.answer; place = o.place }
+-- what may be refused with a place, by its answer number and that place: 0 and 0 where it is done. No two have the same outcome (Unique).
+abbrev pub outcome_told : Result Unit Fault → Outcome
+outcome_told (Ok _) = placeless 0
+outcome_told (Err fault) = record { answer = number_of fault.refusal; place = fault.place }
 
 -- 2 to 11 of a notification, which read no table
 unfoldable pub check_rules : {K : Sort} → Setting → Notification K → List Rule

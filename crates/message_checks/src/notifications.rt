@@ -1,4 +1,5 @@
-// What can be wrong with a notification (meaning, Notifications.antt): refusals 2 to 11, which need no table, for any book, sound or not; and 12 to 14.
+// What can be wrong with a notification (meaning, Notifications.antt): refusals 2 to 11, which need no table, for any book, sound or not; and 12 to
+// 14.
 ghost use Rattle.std.specs.Prelude.{not, ◌||◌, ◌≡◌, min};
 ghost use Rattle.words.specs.Tests.{◌=?◌, between, within};
 ghost use Rattle.words.specs.Rules.{answer, outcome};
@@ -8,16 +9,18 @@ ghost use Rattle.meaning.specs.Notifications.{originator_right, highest_period, 
 ghost use Rattle.messages.specs.Structs.{notification_of};
 ghost use Rattle.setups.specs.Structs.{row_of};
 ghost use Rattle.book.specs.Structs.{time_in, rows_in, setting_in};
-ghost use Rattle.message_checks.specs.Checks.{outcome_of, check_rules, late_rules};
+ghost use Rattle.limits.specs.Refusals.{answer_of};
+ghost use Rattle.message_checks.specs.Checks.{outcome_told, check_rules, late_rules};
 
-use crate::Outcome;
+use crate::Fault;
 use book::{Book, state};
-use limits::{kinds, numbers};
+use limits::kinds::{Kind, ONLY_ADDITIONAL, ONLY_REPLACEMENTS};
+use limits::refusals::Refusal;
 
 const LAST_PLACE: u16 = 255;
 
-// "key wrong, or agent is neither of its two". The row of its authorisation is handed over, here and below, since reading it out of a book copies all of
-// them.
+// "key wrong, or agent is neither of its two". The row of its authorisation is handed over, here and below, since reading it out of a book copies
+// all of them.
 fn key_or_agent_wrong(row: setups::Authorisation, key: u16, agent: u8) -> bool
     ensures { result ≡ not (key =? row.key) || not (agent =? row.agent1 || agent =? row.agent2) }
 {
@@ -82,142 +85,121 @@ fn first_wrong_period(b: Book, n: messages::Notification) -> u8
     let count = messages::entries_inside(n.count);
     let highest = highest_period(b, n);
     let mut before: u8 = 0;
-    let mut k: u8 = 0;
-    while k < count {
+    for k in 0..count {
         let period = n.entries[k as usize].period;
         if !((before < period) & (period <= highest)) {
             return k;
         }
         before = period;
-        k += 1;
     }
-    k
+    count
 }
 
 fn volume_out(v: i32) -> bool
     ensures { result ≡ not (within 99999999 v) }
 {
-    !((limits::LEAST_KWH <= v) & (v <= limits::MOST_KWH))
+    !(limits::LEAST_KWH..=limits::MOST_KWH).contains(&v)
 }
 
 // The place of the first entry whose volume is out of range; the count where there is none.
 fn first_wrong_volume(n: messages::Notification) -> u8
     ensures { result ≡ first_entry (notification_of n) (volume_offends (notification_of n)) }
 {
-    let count = messages::entries_inside(n.count);
-    let mut k: u8 = 0;
-    while k < count {
-        let e = n.entries[k as usize];
-        if volume_out(e.volume) {
+    for k in 0..messages::entries_inside(n.count) {
+        if volume_out(n.entries[k as usize].volume) {
             return k;
         }
-        k += 1;
     }
     n.count
 }
 
-// 3 to 6: its authorisation is one of the book's, and it may be sent under it today.
-fn authorisation_refusal(b: Book, n: messages::Notification, today: u32) -> u8
+// 3 to 6: its authorisation is one of the book's, and it may be sent under it today. That day is found once, and handed to this and the next.
+fn authorisation_refusal(b: Book, n: messages::Notification, today: u32) -> Result<(), Refusal>
     requires { today ≡ current_day (time_in b) }
-    ensures { result ≡ answer (authorisation_rules (setting_in b) (notification_of n)) }
+    ensures { answer_of result ≡ answer (authorisation_rules (setting_in b) (notification_of n)) }
 {
     if b.setup.authorisations <= n.authorisation {
-        return numbers::NO_AUTHORISATION;
+        return Err(Refusal::NoAuthorisation);
     }
     let row = state::row_of(b, n.authorisation as u32);
     if key_or_agent_wrong(row, n.key, n.agent) {
-        return numbers::KEY_OR_AGENT_WRONG;
+        return Err(Refusal::KeyOrAgentWrong);
     }
     if !in_force(row, today) {
-        return numbers::NOT_IN_FORCE;
+        return Err(Refusal::NotInForce);
     }
     if originator_wrong(b, n, row, today) {
-        return numbers::ORIGINATOR_WRONG;
+        return Err(Refusal::OriginatorWrong);
     }
-    0
+    Ok(())
 }
 
 // 7 to 9: its first and last day, against each other, today and the book.
-fn days_refusal(b: Book, n: messages::Notification, today: u32) -> u8
+fn days_refusal(b: Book, n: messages::Notification, today: u32) -> Result<(), Refusal>
     requires { today ≡ current_day (time_in b) }
-    ensures { result ≡ answer (day_rules (setting_in b) (notification_of n)) }
+    ensures { answer_of result ≡ answer (day_rules (setting_in b) (notification_of n)) }
 {
     if n.last < n.first {
-        return numbers::LAST_BEFORE_FIRST;
+        return Err(Refusal::LastBeforeFirst);
     }
     if (n.last as u32) < today {
-        return numbers::LAST_DAY_PAST;
+        return Err(Refusal::LastDayPast);
     }
     let s = b.setup;
     if s.first as u32 + s.days as u32 <= n.first as u32 {
-        return numbers::FIRST_DAY_AFTER_BOOK;
+        return Err(Refusal::FirstDayAfterBook);
     }
-    0
+    Ok(())
 }
 
 // 10 and 11: its entries, with the place of the first that offends (02, A3).
-fn entries_outcome(b: Book, n: messages::Notification) -> Outcome
-    ensures { result ≡ outcome_of (outcome (entry_rules (setting_in b) (notification_of n))) }
+fn entries_outcome(b: Book, n: messages::Notification) -> Result<(), Fault>
+    ensures { outcome_told result ≡ outcome (entry_rules (setting_in b) (notification_of n)) }
 {
     let period = first_wrong_period(b, n);
     if period < n.count {
-        return Outcome {
-            answer: numbers::PERIOD_WRONG,
+        return Err(Fault {
+            refusal: Refusal::PeriodWrong,
             place: period,
-        };
+        });
     }
     let volume = first_wrong_volume(n);
     if volume < n.count {
-        return Outcome {
-            answer: numbers::VOLUME_WRONG,
+        return Err(Fault {
+            refusal: Refusal::VolumeWrong,
             place: volume,
-        };
+        });
     }
-    placeless(0)
+    Ok(())
 }
 
-// An answer that carries no place.
-fn placeless(answer: u8) -> Outcome
-    ensures { result ≡ record { answer = answer; place = 0 } }
-{
-    Outcome {
-        answer: answer,
-        place: 0,
-    }
-}
-
-// The first rule from 2 to 11 that refuses the notification, by its number and the place that it carries; 0 where none does.
-pub fn checks_outcome(b: Book, n: messages::Notification) -> Outcome
-    ensures { result ≡ outcome_of (outcome (check_rules (setting_in b) (notification_of n))) }
+// The first rule from 2 to 11 that refuses the notification, and the place that it carries.
+pub fn checks_outcome(b: Book, n: messages::Notification) -> Result<(), Fault>
+    ensures { outcome_told result ≡ outcome (check_rules (setting_in b) (notification_of n)) }
 {
     let time = state::clock_of(b);
     if clock::every_gate_closed(time) {
-        return placeless(numbers::EVERY_GATE_CLOSED);
+        return Err(Refusal::EveryGateClosed.into());
     }
     let today = clock::current_day(time);
-    let authorisation = authorisation_refusal(b, n, today);
-    if authorisation != 0 {
-        return placeless(authorisation);
-    }
-    let days = days_refusal(b, n, today);
-    if days != 0 {
-        return placeless(days);
-    }
+    authorisation_refusal(b, n, today)?;
+    days_refusal(b, n, today)?;
     entries_outcome(b, n)
 }
 
-// 12, 13 and 14, of its kind, its authorisation's type, its slot and the number of slots.
-pub fn late_refusal(kind: u8, amendment: u8, slot: usize, slots: usize) -> u8
-    ensures { result ≡ answer (late_rules kind amendment slot slots) }
+// 12, 13 and 14, of its kind, its authorisation's type, its slot and the number of slots. The kind comes by its number, as the rules have it: a
+// narrower type would ask more of callers.
+pub fn late_refusal(kind: u8, amendment: u8, slot: usize, slots: usize) -> Result<(), Refusal>
+    ensures { answer_of result ≡ answer (late_rules kind amendment slot slots) }
 {
-    if (kind == kinds::REPLACEMENT) & (amendment == kinds::ONLY_ADDITIONAL) {
-        return numbers::REPLACEMENT_NOT_ALLOWED;
+    if (kind == Kind::Replacement as u8) & (amendment == ONLY_ADDITIONAL) {
+        return Err(Refusal::ReplacementNotAllowed);
     }
-    if (kind == kinds::ADDITIONAL) & (amendment == kinds::ONLY_REPLACEMENTS) {
-        return numbers::ADDITIONAL_NOT_ALLOWED;
+    if (kind == Kind::Additional as u8) & (amendment == ONLY_REPLACEMENTS) {
+        return Err(Refusal::AdditionalNotAllowed);
     }
     if slots <= slot {
-        return numbers::NO_SLOT;
+        return Err(Refusal::NoSlot);
     }
-    0
+    Ok(())
 }

@@ -3,11 +3,12 @@ ghost use Rattle.std.specs.Prelude.{◌≡◌};
 ghost use Rattle.words.specs.Rules.{answer};
 ghost use Rattle.meaning.specs.Calls.{accounts_wrong};
 ghost use Rattle.messages.specs.Structs.{nullification_of};
+ghost use Rattle.limits.specs.Refusals.{answer_of};
 ghost use Rattle.book.specs.Structs.{setting_in};
 ghost use Rattle.message_checks.specs.Checks.{pair_check_rules};
 
 use book::{Book, state};
-use limits::numbers;
+use limits::refusals::Refusal;
 
 // An account is not in the book, or the two are one.
 fn accounts_wrong(b: Book, x: messages::Nullification) -> bool
@@ -18,18 +19,18 @@ fn accounts_wrong(b: Book, x: messages::Nullification) -> bool
 }
 
 // What refuses a nullification that is not soundness: 2, 15, 9.
-pub fn judge_nullification(b: Book, x: messages::Nullification) -> u8
-    ensures { result ≡ answer (pair_check_rules (setting_in b) (nullification_of x)) }
+pub fn judge_nullification(b: Book, x: messages::Nullification) -> Result<(), Refusal>
+    ensures { answer_of result ≡ answer (pair_check_rules (setting_in b) (nullification_of x)) }
 {
     let c = state::clock_of(b);
     if clock::every_gate_closed(c) {
-        return numbers::EVERY_GATE_CLOSED;
+        return Err(Refusal::EveryGateClosed);
     }
     if accounts_wrong(b, x) {
-        return numbers::NO_SUCH_ACCOUNT;
+        return Err(Refusal::NoSuchAccount);
     }
     if b.setup.first as u32 + b.setup.days as u32 <= x.first as u32 {
-        return numbers::FIRST_DAY_AFTER_BOOK;
+        return Err(Refusal::FirstDayAfterBook);
     }
-    0
+    Ok(())
 }

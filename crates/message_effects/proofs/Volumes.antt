@@ -1,17 +1,21 @@
 -- What a notification gives for each period, its entries stored from the last down to the first.
-use mathlib.Core.Bool.{true, false, cond, ◌&&◌, true≢false}
+use mathlib.Core.Bool.{true, false, cond, true≢false}
 use mathlib.Core.List.{List, [], ◌∷◌}
 use mathlib.Core.Logic.{◌≢◌}
 use mathlib.Core.Path.{◌≡◌, refl, sym, ap, ◌∙◌}
 use Prim.Native.Nat.{ℕ, suc, ◌+◌, ◌-◌, ◌≤◌, ◌<◌, min}
 use native.Mathlib.Omega.{arith}
-use lib.Dec.{leb, ltb, eqb}
+use lib.Dec.{leb, eqb}
 use lib.IntN.{ℤ, pos}
-use lib.ListN.{length, get_or, set, drop, replicate, length-set, length-drop, get_or-eq_default}
+use lib.ListN.{length, get_or, set, drop, take, replicate, length-set, length-drop, get_or-eq_default}
 use lib.Seq.{drop-cons, get_or-drop, get_or-set_same, get_or-set_other}
-use borrow.Author.Tests.{leb-true, ltb-true, le-leb, lt-ltb, eq-eqb, ne_eqb}
+use borrow.Author.Tests.{leb-true, le-leb, eq-eqb, ne_eqb}
+use Rattle.std.specs.Prelude.{reverse}
+use Rattle.std.proofs.lemmas.List.{get_or-reverse, length-reverse, length-take-le, get_or-take}
+use Rattle.words.specs.Tests.{between}
 use Rattle.words.specs.Lists.{build}
 use Rattle.laws.proofs.Builds.{length-build, get_or-build, is-build, build-same, build-all}
+use Rattle.laws.proofs.Lists.{get_or-inside}
 use Rattle.laws.proofs.Cases.{by-lt, by-eq, and_left, and_right, both}
 use Rattle.meaning.specs.Ledgers.{contracts}
 use Rattle.meaning.specs.Messages as Meaning
@@ -28,6 +32,26 @@ use Rattle.messages.proofs.Notification.TheLaws.{the_laws}
 -- the array of entries has 50
 pub entries-length : (n : Notification) → Is (row the_type) n (vals the_type the_laws n) → length n.entries ≡ 50
 entries-length n g = (owed the_type the_laws n (vals the_type the_laws n) g).1.1.1.1.1.1.1.1.0.1.0.1
+
+-- the first entries, from the last down
+pub length-back : (es : List Entry) (count : ℕ) → count ≤ length es → length (reverse (take count es)) ≡ count
+length-back es count few = length-reverse (take count es) ∙ length-take-le count es few
+
+-- of them the one after k
+pub entry-back : (es : List Entry) (count : ℕ) → count ≤ length es → (k : ℕ) (e : Entry)
+    → (k < length (reverse (take count es))) × (e ≡ get_or (reverse (take count es)) k e) → (k < count) × (e ≡ get_or es (count - suc k) no_entry)
+entry-back es count few k e t =
+    let front = take count es in
+    let size : length front ≡ count = length-take-le count es few in
+    let inside : k < count = omega (arith, length-reverse front, t.0) in
+    let place : length front - 1 - k ≡ count - suc k = omega arith in (
+      inside,
+      t.1
+          ∙ get_or-reverse front k e (omega arith)
+          ∙ ap (λ (j : ℕ). get_or front j e) place
+          ∙ get_or-take count es (count - suc k) e (omega arith)
+          ∙ get_or-inside es (count - suc k) e no_entry (omega arith),
+    )
 
 -- what the entries from place k on give
 unfoldable pub given_from : List (Meaning.Entry contracts) → ℕ → List ℤ
@@ -85,19 +109,19 @@ module _ (count : ℕ) (es : List Entry) where
   length-entries = length-build count _
 
   -- a loop's turn at entry k: it is stored, or passed over
-  pub given-stored : (k m : ℕ) → suc k ≡ m → k < count → ltb 0 (get_or es k no_entry).period && leb (get_or es k no_entry).period 50 ≡ true
+  pub given-stored : (k m : ℕ) → suc k ≡ m → k < count → between 1 50 (get_or es k no_entry).period ≡ true
       → set (given_from (entries_of count es) m) ((get_or es k no_entry).period - 1) (get_or es k no_entry).volume ≡ given_from (entries_of count es) k
   given-stored k m q h t =
       let p = (get_or es k no_entry).period in
-      let low = ltb-true 0 p (and_left (ltb 0 p) (leb p 50) t) in
-      let high = leb-true p 50 (and_right (ltb 0 p) (leb p 50) t) in
+      let low = leb-true 1 p (and_left (leb 1 p) (leb p 50) t) in
+      let high = leb-true p 50 (and_right (leb 1 p) (leb p 50) t) in
       rw (← q) (rw (entry_at k h) at (given-more (entries_of count es) k (rw length-entries h) (rw (entry_at k h) low) (rw (entry_at k h) high)))
 
-  pub given-passed : (k m : ℕ) → suc k ≡ m → k < count → ltb 0 (get_or es k no_entry).period && leb (get_or es k no_entry).period 50 ≡ false
+  pub given-passed : (k m : ℕ) → suc k ≡ m → k < count → between 1 50 (get_or es k no_entry).period ≡ false
       → given_from (entries_of count es) m ≡ given_from (entries_of count es) k
   given-passed k m q h t =
       let p = (get_or es k no_entry).period in
-      let out : 0 < p → 50 < p = λ w. by-lt 50 p (λ z. z) (λ z. absurd (true≢false (sym (both (lt-ltb 0 p w) (le-leb p 50 z)) ∙ t))) in
+      let out : 0 < p → 50 < p = λ w. by-lt 50 p (λ z. z) (λ z. absurd (true≢false (sym (both (le-leb 1 p w) (le-leb p 50 z)) ∙ t))) in
       rw (← q) (given-kept (entries_of count es) k (rw length-entries h) (rw (entry_at k h) out))
 
   -- past the last entry, and past the array, nothing is given

@@ -23,14 +23,11 @@ fn volumes_of(n: messages::Notification) -> [i32; limits::PLACES_A_DAY]
     ensures { result ≡ build 50 (λ (p : ℕ). volume (notification_of n).entries (suc p)) }
 {
     let mut volumes: [i32; limits::PLACES_A_DAY] = [0; limits::PLACES_A_DAY];
-    let mut k = messages::entries_inside(n.count) as usize;
-    while 0 < k {
-        k -= 1;
-        let e = n.entries[k];
+    let count = messages::entries_inside(n.count) as usize;
+    for e in n.entries[..count].iter().rev() {
         let place = e.period as usize;
-        let volume = e.volume;
-        if (0 < place) & (place <= limits::PLACES_A_DAY) {
-            volumes[place - 1] = volume;
+        if (1..=limits::PLACES_A_DAY).contains(&place) {
+            volumes[place - 1] = e.volume;
         }
     }
     volumes
@@ -40,16 +37,8 @@ fn volumes_of(n: messages::Notification) -> [i32; limits::PLACES_A_DAY]
 fn closed_on(c: clock::Clock, d: u8) -> usize
     ensures { result ≡ min (c.closed - gates_before (time_of c).codes d) (periods_at (time_of c).codes d) }
 {
-    let gates = clock::gates_before(c, d);
-    let periods = clock::periods_at(c, d);
-    if c.closed < gates {
-        return 0;
-    }
-    let closed = c.closed - gates;
-    if closed < periods as u16 {
-        return closed as usize;
-    }
-    periods as usize
+    let closed = c.closed.saturating_sub(clock::gates_before(c, d));
+    closed.min(clock::periods_at(c, d) as u16) as usize
 }
 
 // One day of a slot.
@@ -86,10 +75,8 @@ fn write_days(side: &mut [i32], c: clock::Clock, slot: u8, first: u16, until: u3
     requires { length laid.now ≡ 150 }
     ensures { side.new ≡ map_at (slot_rule (time_of c) slot first until (laid_volume laid.now)) side.old }
 {
-    let mut d: u8 = 0;
-    while d < c.days {
+    for d in 0..c.days {
         write_day(side, c, slot, d, first, until, laid);
-        d += 1;
     }
 }
 
@@ -149,18 +136,15 @@ fn blank_slots(side: &mut [i32], held: &[u32], b: Book, account: u8, other: u8, 
 {
     let c = state::clock_of(b);
     let unused: [i32; placing::LAID_OUT] = [0; placing::LAID_OUT];
-    let mut s: usize = 0;
-    while s < held.len() {
-        let entry = held[s];
-        if of_pair(b, entry, account, other) {
+    for (s, entry) in held.iter().enumerate() {
+        if of_pair(b, *entry, account, other) {
             write_days(side, c, s as u8, first, 0, &unused);
         }
-        s += 1;
     }
 }
 
 // A nullification: in each slot whose identifier is between the two accounts the mark, at the open places from the first day on. Either side.
-// More slots than a book has stay as they came.
+// More slots than a book has stay as they came. The side is written, so it comes beside the book and not in a view.
 pub fn blank_pair(side: &mut [i32], held: &[u32], b: Book, account: u8, other: u8, first: u16)
     ensures { (σ : Side) → side.new ≡ pair_blanked b account other first held.now σ side.old }
 {

@@ -11,14 +11,7 @@ pub(crate) const LAID_OUT: usize = 3 * limits::PLACES_A_DAY;
 fn some_day_has(c: clock::Clock, periods: u8) -> bool
     ensures { result ≡ some_day_has (time_of c) periods }
 {
-    let mut d: u8 = 0;
-    while d < c.days {
-        if clock::periods_at(c, d) == periods {
-            return true;
-        }
-        d += 1;
-    }
-    false
+    (0..c.days).any(|d| clock::periods_at(c, d) == periods)
 }
 
 // How many of a day's periods, from the first on, show the notification's period of the same number.

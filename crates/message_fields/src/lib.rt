@@ -25,39 +25,20 @@ fn entry_of(bytes: &[u8], k: u8) -> Entry
 {
     let count = fields::read_field(bytes, layouts::COUNT_AT, 6);
     if count <= k as u32 {
-        return Entry {
-            period: 0,
-            volume: 0,
-        };
+        return Entry::NONE;
     }
-    let at = layouts::NOTIFICATION_BITS + layouts::ENTRY_BITS * k as u32;
-    let period = fields::read_field(bytes, at, 6) as u8;
-    let volume = fields::volume_of_bits(fields::read_field(bytes, at + 6, 28));
-    Entry {
-        period: period,
-        volume: volume,
-    }
+    message_reading::entry_in(bytes, k)
 }
 
 // The period or the volume of an entry.
 fn entry_field_in(bytes: &[u8], field: u32) -> i64
     ensures { result ≡ entry_field (notification_in bytes.now) field }
 {
-    if field < PERIODS {
-        return 0;
+    match field {
+        PERIODS..PAST_PERIODS => entry_of(bytes, (field - PERIODS) as u8).period as i64,
+        VOLUMES..PAST_VOLUMES => entry_of(bytes, (field - VOLUMES) as u8).volume as i64,
+        _ => 0,
     }
-    if field < PAST_PERIODS {
-        let e = entry_of(bytes, (field - PERIODS) as u8);
-        return e.period as i64;
-    }
-    if field < VOLUMES {
-        return 0;
-    }
-    if field < PAST_VOLUMES {
-        let e = entry_of(bytes, (field - VOLUMES) as u8);
-        return e.volume as i64;
-    }
-    0
 }
 
 // A place and a width each, in the order of the layout: "kind 1 (2), authorisation 6, agent 8, key 16, originator 6, reference 16, first day 16, last
@@ -94,7 +75,7 @@ fn nullification_field_in(bytes: &[u8], field: u32) -> i64
 pub fn field_in(bytes: &[u8], field: u32) -> i64
     ensures { result ≡ field_in (read_message bytes.now).read field }
 {
-    if message_reading::reading_refusal(bytes) != 0 {
+    if message_reading::reading_refusal(bytes).is_err() {
         return 0;
     }
     let kind = message_reading::kind_in(bytes);

@@ -2,4 +2,5 @@
 pub mod ReadRefusals
 pub mod ReadParts
 pub mod ReadAgain
+pub mod Tells
 pub mod Unique

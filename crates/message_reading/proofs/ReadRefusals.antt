@@ -26,7 +26,7 @@ bits_told s =
     else total (layout_in s)
 
 -- a message has 2 bits or more, and no more than with fifty entries
-begins : (kind count : ℕ) → 2 ≤ total (layout_for kind count)
+pub begins : (kind count : ℕ) → 2 ≤ total (layout_for kind count)
 begins kind count =
     by-eq kind 1
     (λ e. omega (arith, bits-notification kind count e))

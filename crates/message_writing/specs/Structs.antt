@@ -1,6 +1,6 @@
--- What writing answers, as a struct.
+-- What writing answers, as the struct that C is given.
 use Rattle.meaning.specs.PackedMessages.{Written}
-use Rattle.message_writing.specs.declared.MessageWritten.{MessageWritten}
+use Rattle.fields.specs.declared.WrittenBytes.{WrittenBytes}
 
-unfoldable pub message_written : Written → MessageWritten
+unfoldable pub message_written : Written → WrittenBytes
 message_written w = record { answer = w.answer; length = w.length }

@@ -3,21 +3,15 @@
 
 ghost use Rattle.std.specs.Prelude.{◌≡◌};
 ghost use Rattle.words.specs.Rules.{answer};
+ghost use Rattle.limits.specs.Refusals.{answer_of};
 ghost use Rattle.meaning.specs.PackedMessages.{writing_rules, write_message};
 ghost use Rattle.messages.specs.Structs.{message_of};
+ghost use Rattle.fields.specs.Fronts.{written_as};
 ghost use Rattle.message_writing.specs.Structs.{message_written};
 ghost use Rattle.message_writing.specs.Writing.{entry_fits, entries_fit, notification_fits, nullification_fits, message_fits, count_of, entries_written, notification_written, nullification_written, message_into};
 
-use limits::numbers;
+use limits::refusals::Refusal;
 use messages::{Entry, Message, Notification, Nullification, layouts};
-
-// With a refusal the length is 0.
-#[repr(C)]
-#[derive(Clone, Copy)]
-pub struct MessageWritten {
-    pub answer: u8,
-    pub length: usize,
-}
 
 const SIX_BITS: u8 = 64;
 // "period 6, volume 28 in two's complement"
@@ -27,35 +21,21 @@ const ENTRY_WIDTHS: [u8; 2] = [6, 28];
 fn entry_fits(e: Entry) -> bool
     ensures { result ≡ entry_fits e }
 {
-    let fits = fields::volume_fits(e.volume);
-    (e.period < SIX_BITS) & fits
+    (e.period < SIX_BITS) & fields::volume_fits(e.volume)
 }
 
 // At most 50 entries, and each fits.
 fn entries_fit(n: Notification) -> bool
     ensures { result ≡ entries_fit n }
 {
-    let count = n.count;
-    if limits::MOST_ENTRIES < count {
-        return false;
-    }
-    let mut k: u8 = 0;
-    while k < count {
-        let e = n.entries[k as usize];
-        if !entry_fits(e) {
-            return false;
-        }
-        k += 1;
-    }
-    true
+    n.count <= limits::MOST_ENTRIES && n.entries[..n.count as usize].iter().all(|e| entry_fits(*e))
 }
 
 // The other values of a notification fill their types, or have six bits.
 fn notification_fits(n: Notification) -> bool
     ensures { result ≡ notification_fits n }
 {
-    let entries = entries_fit(n);
-    (n.authorisation < SIX_BITS) & (n.originator < SIX_BITS) & entries
+    (n.authorisation < SIX_BITS) & (n.originator < SIX_BITS) & entries_fit(n)
 }
 
 fn nullification_fits(x: Nullification) -> bool
@@ -68,8 +48,7 @@ fn nullification_fits(x: Nullification) -> bool
 fn message_fits(m: Message) -> bool
     ensures { result ≡ message_fits m }
 {
-    let kind = m.kind;
-    match kind {
+    match m.kind {
         0 => true,
         1 => notification_fits(m.notification),
         2 => nullification_fits(m.nullification),
@@ -82,46 +61,40 @@ fn count_of(m: Message) -> u8
     ensures { result ≡ count_of m }
 {
     if m.kind == 1 {
-        let n = m.notification;
-        return n.count;
+        return m.notification.count;
     }
     0
 }
 
-// The number that refuses this message for a buffer with this room, or 0.
-pub fn writing_refusal(m: Message, room: usize) -> u8
-    ensures { result ≡ answer (writing_rules (message_of m) room) }
+// Why this message is refused for a buffer with this room, if it is.
+pub fn writing_refusal(m: Message, room: usize) -> Result<(), Refusal>
+    ensures { answer_of result ≡ answer (writing_rules (message_of m) room) }
 {
-    let kind = m.kind;
-    if kind == 3 {
-        return layouts::kind_refusal(kind);
+    if m.kind == 3 {
+        return Err(Refusal::KindThree);
     }
     if !message_fits(m) {
-        return numbers::VALUE_DOES_NOT_FIT;
+        return Err(Refusal::ValueDoesNotFit);
     }
-    if room < layouts::bytes_for(kind, count_of(m)) {
-        return numbers::NO_ROOM;
+    if room < layouts::bytes_for(m.kind, count_of(m)) {
+        return Err(Refusal::NoRoom);
     }
-    0
+    Ok(())
 }
 
 // The entries behind the 92 bits of the head.
 fn write_entries(n: Notification, out: &mut [u8])
     ensures { out.new ≡ entries_written n out.old }
 {
-    let most = messages::entries_inside(n.count);
-    let widths = ENTRY_WIDTHS;
-    let mut k: u8 = 0;
-    while k < most {
+    for k in 0..messages::entries_inside(n.count) {
         let e = n.entries[k as usize];
         let values = [e.period as u32, fields::bits_of_volume(e.volume)];
         fields::write_fields(
             out,
             layouts::NOTIFICATION_BITS + layouts::ENTRY_BITS * k as u32,
-            &widths,
+            &ENTRY_WIDTHS,
             &values,
         );
-        k += 1;
     }
 }
 
@@ -129,7 +102,6 @@ fn write_entries(n: Notification, out: &mut [u8])
 fn write_notification(n: Notification, out: &mut [u8])
     ensures { out.new ≡ notification_written n out.old }
 {
-    let widths = layouts::NOTIFICATION_WIDTHS;
     let values = [
         1,
         n.authorisation as u32,
@@ -141,16 +113,15 @@ fn write_notification(n: Notification, out: &mut [u8])
         n.last as u32,
         n.count as u32,
     ];
-    fields::write_fields(out, 0, &widths, &values);
+    fields::write_fields(out, 0, &layouts::NOTIFICATION_WIDTHS, &values);
     write_entries(n, out);
 }
 
 fn write_nullification(x: Nullification, out: &mut [u8])
     ensures { out.new ≡ nullification_written x out.old }
 {
-    let widths = layouts::NULLIFICATION_WIDTHS;
     let values = [2, x.account as u32, x.other as u32, x.first as u32];
-    fields::write_fields(out, 0, &widths, &values);
+    fields::write_fields(out, 0, &layouts::NULLIFICATION_WIDTHS, &values);
 }
 
 // The fields of the message by its kind, and zero bits that fill the last byte.
@@ -172,20 +143,11 @@ fn write_whole(m: Message, out: &mut [u8])
     );
 }
 
-// The message at the front of the buffer. Bytes past what is written stay; a refusal leaves the whole buffer as it was.
-pub fn write_message(m: Message, out: &mut [u8]) -> MessageWritten
-    ensures { (result ≡ message_written (write_message (message_of m) out.old)) × (out.new ≡ (write_message (message_of m) out.old).out) }
+// The message at the front of the buffer, and its length. Bytes past what is written stay; a refusal leaves the whole buffer as it was.
+pub fn write_message(m: Message, out: &mut [u8]) -> Result<usize, Refusal>
+    ensures { (written_as result ≡ message_written (write_message (message_of m) out.old)) × (out.new ≡ (write_message (message_of m) out.old).out) }
 {
-    let answer = writing_refusal(m, out.len());
-    if answer != 0 {
-        return MessageWritten {
-            answer: answer,
-            length: 0,
-        };
-    }
+    writing_refusal(m, out.len())?;
     write_whole(m, out);
-    MessageWritten {
-        answer: 0,
-        length: layouts::bytes_for(m.kind, count_of(m)),
-    }
+    Ok(layouts::bytes_for(m.kind, count_of(m)))
 }

@@ -1,10 +1,12 @@
 // The layouts: where a message's fields stand, and the bits, bytes and padding of one of a kind and a number of entries.
 ghost use Rattle.std.specs.Prelude.{◌≡◌};
 ghost use Rattle.words.specs.Fields.{total, bytes_for, padding};
+ghost use Rattle.limits.specs.Refusals.{answer_of};
 ghost use Rattle.meaning.specs.PackedMessages.{layout_for};
 ghost use Rattle.messages.specs.Parts.{kind_refusal};
 
-use limits::numbers;
+use fields::whole_bits;
+use limits::refusals::Refusal;
 
 // "Notification: kind 1 (2), authorisation 6, agent 8, key 16, originator 6, reference 16, first day 16, last day 16, count 6"
 pub const NOTIFICATION_WIDTHS: [u8; 9] = [2, 6, 8, 16, 6, 16, 16, 16, 6];
@@ -44,15 +46,13 @@ const NULLIFICATION_BITS: u32 = 30;
 const KIND_BITS: u32 = 2;
 
 // The fourth kind is refused by its own number; a kind above it does not fit its field of 2 bits.
-pub fn kind_refusal(kind: u8) -> u8
-    ensures { result ≡ kind_refusal kind }
+pub fn kind_refusal(kind: u8) -> Result<(), Refusal>
+    ensures { answer_of result ≡ kind_refusal kind }
 {
     match kind {
-        0 => 0,
-        1 => 0,
-        2 => 0,
-        3 => numbers::KIND_THREE,
-        _ => numbers::VALUE_DOES_NOT_FIT,
+        0..=2 => Ok(()),
+        3 => Err(Refusal::KindThree),
+        _ => Err(Refusal::ValueDoesNotFit),
     }
 }
 
@@ -71,13 +71,12 @@ pub fn bits_for(kind: u8, count: u8) -> u32
 pub fn bytes_for(kind: u8, count: u8) -> usize
     ensures { result ≡ bytes_for (layout_for kind count) }
 {
-    ((bits_for(kind, count) + 7) / 8) as usize
+    whole_bits::bytes_of(bits_for(kind, count))
 }
 
 // The bits that are left over in the last byte.
 pub fn padding_for(kind: u8, count: u8) -> u8
     ensures { result ≡ padding (layout_for kind count) }
 {
-    let bits = bits_for(kind, count);
-    ((bits + 7) / 8 * 8 - bits) as u8
+    whole_bits::padding_of(bits_for(kind, count))
 }

@@ -13,7 +13,16 @@ pub struct Entry {
     pub volume: i32,
 }
 
-// `authorisation` is the number of the one that it is sent under; the identifier is originator and reference. Entries past `count` are no part of it.
+impl Entry {
+    // Both zero: what reads past the last entry.
+    pub const NONE: Entry = Entry {
+        period: 0,
+        volume: 0,
+    };
+}
+
+// `authorisation` is the number of the one that it is sent under; the identifier is originator and reference. Entries past `count` are no part of it:
+// C fills the array and the count beside it.
 #[repr(C)]
 #[derive(Clone, Copy)]
 pub struct Notification {
@@ -28,6 +37,21 @@ pub struct Notification {
     pub entries: [Entry; limits::MOST_ENTRIES_WIDE],
 }
 
+impl Notification {
+    // All of it zero: what a message of another kind has.
+    pub const NONE: Notification = Notification {
+        authorisation: 0,
+        agent: 0,
+        key: 0,
+        originator: 0,
+        reference: 0,
+        first: 0,
+        last: 0,
+        count: 0,
+        entries: [Entry::NONE; limits::MOST_ENTRIES_WIDE],
+    };
+}
+
 #[repr(C)]
 #[derive(Clone, Copy)]
 pub struct Nullification {
@@ -36,7 +60,17 @@ pub struct Nullification {
     pub first: u16,
 }
 
-// Kind 0 is a gate, 1 a notification, 2 a nullification. What a kind lacks is no part of it, and reads as zero.
+impl Nullification {
+    // The same of a nullification.
+    pub const NONE: Nullification = Nullification {
+        account: 0,
+        other: 0,
+        first: 0,
+    };
+}
+
+// Kind 0 is a gate, 1 a notification, 2 a nullification. What a kind lacks is no part of it, and reads as zero. C fills the kind with any
+// number, so it is no enum: what is no kind is refused by its number.
 #[repr(C)]
 #[derive(Clone, Copy)]
 pub struct Message {
@@ -45,13 +79,18 @@ pub struct Message {
     pub nullification: Nullification,
 }
 
+impl Message {
+    // What a refusal gives.
+    pub const NONE: Message = Message {
+        kind: 0,
+        notification: Notification::NONE,
+        nullification: Nullification::NONE,
+    };
+}
+
 // How many of so many entries a notification has room for. Those past the array are of period 0, and give nothing.
 pub fn entries_inside(count: u8) -> u8
     ensures { result ≡ min count 50 }
 {
-    if count < limits::MOST_ENTRIES {
-        count
-    } else {
-        limits::MOST_ENTRIES
-    }
+    count.min(limits::MOST_ENTRIES)
 }

@@ -9,6 +9,10 @@ use native.Mathlib.Nat.{mul-le-mul_right, suc-mul}
 use native.Mathlib.Omega.{arith}
 use lib.IntN.{ℤ}
 use lib.ListN.{length, get_or}
+use mir.Val.{Val}
+use denote.Laws.{Is}
+use denote.Struct.Declared.{row}
+use denote.Struct.Laws.{owed}
 use borrow.Author.Tests.{lt-ltb, le-ltb, le-leb, lt-leb, leb-true, eqb-true, eq-eqb}
 use Rattle.words.specs.Tests.{◌≤?◌, ◌=?◌, between}
 use Rattle.words.specs.Below.{some_below}
@@ -30,7 +34,9 @@ use Rattle.setups.specs.Structs.{row_of}
 use Rattle.setups.proofs.SetupHeld.{codes-own}
 use Rattle.book.specs.declared.Book.{Book}
 use Rattle.book.specs.Structs.{time_in, rows_in, book_of}
-use Rattle.notification_kinds.specs.Kinds.{Fits, Inside, SlotInside, states_place, periods_from, periods_within, from_first, fits, kind_answer}
+use Rattle.book.specs.contracts.Book as Held
+use Rattle.book.proofs.Book.TheLaws as HeldLaws
+use Rattle.notification_kinds.specs.Kinds.{Fits, Inside, states_place, periods_from, periods_within, from_first, fits, kind_answer}
 
 -- ---- a search that has found nothing yet
 
@@ -129,6 +135,10 @@ module _ (b : Book) (n : messages.Notification) (row : setups.Authorisation) (e 
 
 -- ---- rows, identifiers and days
 
+-- what the type of a book says of its array, by whichever values of the machine it is held
+pub rows-lent : (b : Book) {held : List Val} → Is (row Held.the_type) b held → length b.setup.rows ≡ 64
+rows-lent b {held} g = (owed Held.the_type HeldLaws.the_laws b held g).0.1.1.1.1.1.1.1.0.1.0.1
+
 -- an entry that is not 0 holds an identifier, and is one more than it
 pub other-held : (s : Setting) (n : Notification contracts) (entry : ℕ) → entry ≢ 0
     → is_other s n entry ≡ not (entry =? suc n.identifier) && same_accounts (origin_in s.rows entry) (under s n)
@@ -166,15 +176,13 @@ within-few t first last d =
 
 -- ---- the places of a slot are in tables that fit
 
-pub slot-inside : (b : Book) (held : List ℕ) (side1 side2 : List ℤ) (s : ℕ) → Fits b held side1 side2 → s < length held → SlotInside b side1 side2 s
-slot-inside b held side1 side2 s f h =
-    let m = mul-le-mul_right b.setup.days h in
-    let q = suc-mul s b.setup.days in
-    record { slot-few = omega (arith, f.slots-few); in1 = omega (arith, m, q, f.table1); in2 = omega (arith, m, q, f.table2) }
-
-pub place_inside : (b : Book) (side1 side2 : List ℤ) (s d p : ℕ) → SlotInside b side1 side2 s → d < b.setup.days → p < 50 → Inside side1 side2 b.setup.days s d p
+pub place_inside : (b : Book) (held : List ℕ) (side1 side2 : List ℤ) (s d p : ℕ) → Fits b held side1 side2 → s < length held → d < b.setup.days → p < 50
+    → Inside side1 side2 b.setup.days s d p
 unfolding index
-place_inside b side1 side2 s d p f hd hp = record { slot-few = f.slot-few; period-few = hp; in1 = omega (arith, f.in1); in2 = omega (arith, f.in2) }
+place_inside b held side1 side2 s d p f hs hd hp =
+    let m = mul-le-mul_right b.setup.days hs in
+    let q = suc-mul s b.setup.days in
+    record { slot-few = omega (arith, f.slots-few); period-few = hp; in1 = omega (arith, m, q, f.table1); in2 = omega (arith, m, q, f.table2) }
 
 -- ---- what does not read a table
 

@@ -1,5 +1,5 @@
 -- What the search for a notification's kind asks of a book and its lent tables, and what its parts answer.
-use Rattle.std.specs.Prelude.{Bool, ◌&&◌, ◌||◌, List, ◌≡◌, ℕ, suc, ◌+◌, ◌*◌, ◌≤◌, ◌<◌, ℤ, length, get_or, if◌then◌else◌}
+use Rattle.std.specs.Prelude.{Bool, ◌&&◌, ◌||◌, List, ◌≡◌, ℕ, suc, ◌≤◌, ◌<◌, ℤ, length, get_or, if◌then◌else◌}
 use Rattle.words.specs.Tests.{◌≤?◌, ◌=?◌, between}
 use Rattle.meaning.specs.Time.{Time, periods_at, day_number}
 use Rattle.meaning.specs.Ledgers.{contracts, the_mark, stands, index, places}
@@ -34,12 +34,6 @@ periods_from t first d = if first ≤? day_number t d then periods_at t.codes d 
 
 unfoldable pub periods_within : Time → ℕ → ℕ → ℕ → ℕ
 periods_within t first last d = if between first last (day_number t d) then periods_at t.codes d else 0
-
--- the slot's places are in both tables, and there are few slots
-pub record SlotInside (b : Book) (side1 side2 : List ℤ) (s : ℕ) : Type 0 where
-  pub slot-few : s < 256
-  pub in1 : s * b.setup.days * 50 + b.setup.days * 50 ≤ length side1
-  pub in2 : s * b.setup.days * 50 + b.setup.days * 50 ≤ length side2
 
 -- a slot states something on a day that is not before the notification's first
 abbrev pub from_first : Books.Book contracts → Notification contracts → ℕ → ℕ → Bool

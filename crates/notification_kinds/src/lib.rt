@@ -1,41 +1,24 @@
 // The kind of a notification (meaning, Notifications.antt): initial, replacement or additional.
 #![tactic(auto)]
 
-ghost use Rattle.std.specs.Prelude.{[], ◌≡◌, suc, ◌-◌, length, get_or};
+ghost use Rattle.std.specs.Prelude.{[], ◌≡◌, suc, ◌-◌, ◌<◌, length};
 ghost use Rattle.words.specs.Below.{some_below};
 ghost use Rattle.meaning.specs.Time.{gates_before};
 ghost use Rattle.meaning.specs.Authorisations.{row_at};
 ghost use Rattle.meaning.specs.Ledgers.{index};
 ghost use Rattle.meaning.specs.Notifications.{is_replacement, is_other, overlaps, kind_of, kind_number};
 ghost use Rattle.messages.specs.Structs.{notification_of};
-ghost use Rattle.setups.specs.Structs.{no_authorisation, row_of};
-ghost use Rattle.book.specs.Structs.{time_in, rows_in, origin_place, setting_in, book_of};
-ghost use Rattle.notification_kinds.specs.Kinds.{Fits, Inside, states_place, periods_from, periods_within, SlotInside, from_first, fits, kind_answer};
+ghost use Rattle.setups.specs.Structs.{row_of};
+ghost use Rattle.book.specs.Structs.{time_in, rows_in, setting_in, book_of, book_seen};
+ghost use Rattle.limits.specs.Kinds.{number_of_kind, number_found};
+ghost use Rattle.notification_kinds.specs.Kinds.{Fits, Inside, states_place, periods_from, periods_within, from_first, fits, kind_answer};
 
-use book::{Book, state};
-use limits::kinds;
+use book::{Book, BookView, state};
+use limits::kinds::Kind;
 use setups::authorisations;
 
-// A slot, by its entry, holds another identifier of the same account 1 and account 2.
-fn is_other(
-    b: Book,
-    n: messages::Notification,
-    entry: u32,
-    row: setups::Authorisation,
-    mine: setups::Authorisation,
-) -> bool
-    requires { (row ≡ get_or b.setup.rows (origin_place entry) no_authorisation) × (row_of mine ≡ row_at (rows_in b.setup) n.authorisation) }
-    ensures { result ≡ is_other (setting_in b) (notification_of n) entry }
-{
-    if entry == 0 {
-        return false;
-    }
-    let own = ledger::slots::entry_of(n.originator, n.reference);
-    let origin = state::origin_row(b.setup.authorisations, entry, row);
-    (entry != own) & ((origin.account1 == mine.account1) & (origin.account2 == mine.account2))
-}
-
-// A slot states something of a day and a period, counted from 0, on a side that is written.
+// A slot states something of a day and a period, counted from 0, on a side that is written. It is asked innermost, and reads
+// no more of a book than these.
 fn states_at(
     side1: &[i32],
     side2: &[i32],
@@ -60,11 +43,7 @@ fn first_open(b: Book, d: u8) -> u16
     ensures { result ≡ b.closed - gates_before (time_in b).codes d }
 {
     let c = state::clock_of(b);
-    let gates = clock::gates_before(c, d);
-    if c.closed < gates {
-        return 0;
-    }
-    c.closed - gates
+    c.closed.saturating_sub(clock::gates_before(c, d))
 }
 
 // The periods of a day that is not before `first`; none of a day before it.
@@ -90,125 +69,139 @@ fn periods_within(b: Book, first: u16, last: u16, d: u8) -> u16
     periods_from(b, first, d)
 }
 
-// The search for the first other identifier that overlaps: by slots, days and periods, left at the first open period that both state.
-fn is_overlapped(
-    b: Book,
-    held: &[u32],
-    side1: &[i32],
-    side2: &[i32],
-    n: messages::Notification,
-    mine: setups::Authorisation,
-) -> bool
-    requires { Fits b held.now side1.now side2.now × (row_of mine ≡ row_at (rows_in b.setup) n.authorisation) }
-    ensures { result ≡ some_below (length held.now) (overlaps (book_of b held.now side1.now side2.now) (notification_of n)) }
-{
-    let w1 = authorisations::writes_side1(mine, n.agent);
-    let w2 = authorisations::writes_side2(mine, n.agent);
-    let setup = b.setup;
-    let days = setup.days;
-    let mut found = false;
-    'search: for s in 0..held.len() {
-        let entry = held[s];
-        let row = setup.rows[state::origin_place(entry)];
-        if is_other(b, n, entry, row, mine) {
-            for d in 0..days {
-                let first = first_open(b, d);
-                let periods = periods_within(b, n.first, n.last, d);
-                for p in first..periods {
-                    if states_at(side1, side2, w1, w2, days, s, d, p) {
-                        found = true;
-                        break 'search;
+// A notification asked of a book whose tables fit it, with the row of its authorisation.
+#[derive(Clone, Copy)]
+struct Question<'a> {
+    view: BookView<'a>,
+    notification: messages::Notification,
+    row: setups::Authorisation,
+    ghost fits: { Fits view.book view.held.now view.side1.now view.side2.now },
+    ghost is_row: { row_of row ≡ row_at (rows_in view.book.setup) notification.authorisation },
+}
+
+impl Question<'_> {
+    // A slot, by its entry, holds another identifier of the same account 1 and account 2.
+    fn is_other(&self, entry: u32) -> bool
+        ensures { result ≡ is_other (setting_in self.entry.now.view.book) (notification_of self.entry.now.notification) entry }
+    {
+        if entry == 0 {
+            return false;
+        }
+        let own = ledger::slots::entry_of(
+            self.notification.originator,
+            self.notification.reference,
+        );
+        let row = self.view.book.setup.rows[state::origin_place(entry)];
+        let origin = state::origin_row(self.view.book.setup.authorisations, entry, row);
+        (entry != own)
+            & ((origin.account1 == self.row.account1) & (origin.account2 == self.row.account2))
+    }
+
+    // The search for the first other identifier that overlaps: by slots, days and periods, left at the first open period that both state.
+    fn is_overlapped(&self) -> bool
+        ensures { result ≡ some_below (length self.entry.now.view.held.now) (overlaps (book_seen self.entry.now.view) (notification_of self.entry.now.notification)) }
+    {
+        let w1 = authorisations::writes_side1(self.row, self.notification.agent);
+        let w2 = authorisations::writes_side2(self.row, self.notification.agent);
+        let days = self.view.book.setup.days;
+        for (s, entry) in self.view.held.iter().enumerate() {
+            if self.is_other(*entry) {
+                for d in 0..days {
+                    let first = first_open(self.view.book, d);
+                    let periods = periods_within(
+                        self.view.book,
+                        self.notification.first,
+                        self.notification.last,
+                        d,
+                    );
+                    for p in first..periods {
+                        if states_at(self.view.side1, self.view.side2, w1, w2, days, s, d, p) {
+                            return true;
+                        }
                     }
                 }
             }
         }
+        false
     }
-    found
-}
 
-// A slot states something on a side that is written, on the notification's first day or later.
-fn states_from(
-    b: Book,
-    side1: &[i32],
-    side2: &[i32],
-    n: messages::Notification,
-    mine: setups::Authorisation,
-    s: usize,
-) -> bool
-    requires { SlotInside b side1.now side2.now s × (row_of mine ≡ row_at (rows_in b.setup) n.authorisation) }
-    ensures { result ≡ some_below b.setup.days (from_first (book_of b [] side1.now side2.now) (notification_of n) s) }
-{
-    let w1 = authorisations::writes_side1(mine, n.agent);
-    let w2 = authorisations::writes_side2(mine, n.agent);
-    let days = b.setup.days;
-    let mut found = false;
-    'search: for d in 0..days {
-        let periods = periods_from(b, n.first, d);
-        for p in 0..periods {
-            if states_at(side1, side2, w1, w2, days, s, d, p) {
-                found = true;
-                break 'search;
+    // A slot states something on a side that is written, on the notification's first day or later.
+    fn states_from(&self, s: usize) -> bool
+        requires { s < length self.now.view.held.now }
+        ensures { result ≡ some_below self.entry.now.view.book.setup.days (from_first (book_of self.entry.now.view.book [] self.entry.now.view.side1.now self.entry.now.view.side2.now) (notification_of self.entry.now.notification) s) }
+    {
+        let w1 = authorisations::writes_side1(self.row, self.notification.agent);
+        let w2 = authorisations::writes_side2(self.row, self.notification.agent);
+        let days = self.view.book.setup.days;
+        for d in 0..days {
+            let periods = periods_from(self.view.book, self.notification.first, d);
+            for p in 0..periods {
+                if states_at(self.view.side1, self.view.side2, w1, w2, days, s, d, p) {
+                    return true;
+                }
             }
         }
+        false
     }
-    found
+
+    // The identifier is held, and states something on the notification's first day or later.
+    fn is_replacement(&self) -> bool
+        ensures { result ≡ is_replacement (book_seen self.entry.now.view) (notification_of self.entry.now.notification) }
+    {
+        let slot = ledger::slots::slot_of(
+            self.view.held,
+            self.notification.originator,
+            self.notification.reference,
+        );
+        if self.view.held.len() <= slot {
+            return false;
+        }
+        self.states_from(slot)
+    }
 }
 
-// The identifier is held, and states something on the notification's first day or later.
-fn is_replacement(
-    b: Book,
-    held: &[u32],
-    side1: &[i32],
-    side2: &[i32],
-    n: messages::Notification,
-    mine: setups::Authorisation,
-) -> bool
-    requires { Fits b held.now side1.now side2.now × (row_of mine ≡ row_at (rows_in b.setup) n.authorisation) }
-    ensures { result ≡ is_replacement (book_of b held.now side1.now side2.now) (notification_of n) }
+// On tables that fit: the kind.
+fn kind_in(view: BookView<'_>, notification: messages::Notification) -> Kind
+    requires { Fits view.book view.held.now view.side1.now view.side2.now }
+    ensures { number_of_kind result ≡ kind_number (kind_of (book_seen view.entry) (notification_of notification)) }
 {
-    let slot = ledger::slots::slot_of(held, n.originator, n.reference);
-    if held.len() <= slot {
-        return false;
+    let row = state::row_of(view.book, notification.authorisation as u32);
+    let question = Question {
+        view,
+        notification,
+        row,
+    };
+    if question.is_replacement() {
+        return Kind::Replacement;
     }
-    states_from(b, side1, side2, n, mine, slot)
-}
-
-// On tables that fit: the number of the kind.
-fn kind_in(b: Book, held: &[u32], side1: &[i32], side2: &[i32], n: messages::Notification) -> u8
-    requires { Fits b held.now side1.now side2.now }
-    ensures { result ≡ kind_number (kind_of (book_of b held.now side1.now side2.now) (notification_of n)) }
-{
-    let mine = state::row_of(b, n.authorisation as u32);
-    if is_replacement(b, held, side1, side2, n, mine) {
-        return kinds::REPLACEMENT;
+    if question.is_overlapped() {
+        return Kind::Additional;
     }
-    if is_overlapped(b, held, side1, side2, n, mine) {
-        return kinds::ADDITIONAL;
-    }
-    kinds::INITIAL
+    Kind::Initial
 }
 
 // The tables have a place for each slot, day and period, and there are few.
-fn tables_fit(b: Book, slots: usize, lent1: usize, lent2: usize) -> bool
-    ensures { result ≡ fits b slots lent1 lent2 }
+fn tables_fit(view: BookView<'_>) -> bool
+    ensures { result ≡ fits view.entry.book (length view.entry.held.now) (length view.entry.side1.now) (length view.entry.side2.now) }
 {
-    let days = b.setup.days;
+    let days = view.book.setup.days;
     if limits::MOST_DAYS < days {
         return false;
     }
+    let slots = view.held.len();
     if limits::MOST_SLOTS < slots {
         return false;
     }
     let all = slots * days as usize * limits::PLACES_A_DAY;
-    (lent1 == all) & (lent2 == all)
+    (view.side1.len() == all) & (view.side2.len() == all)
 }
 
-// The kind of a notification: 1 initial, 2 replacement, 3 additional; 0 where the tables do not fit the book.
-pub fn kind_of(b: Book, held: &[u32], side1: &[i32], side2: &[i32], n: messages::Notification) -> u8
-    ensures { result ≡ kind_answer b held.now side1.now side2.now (notification_of n) }
+// The kind of a notification; none where the tables do not fit the book.
+pub fn kind_of(view: BookView<'_>, n: messages::Notification) -> Option<Kind>
+    ensures { number_found result ≡ kind_answer view.entry.book view.entry.held.now view.entry.side1.now view.entry.side2.now (notification_of n) }
 {
-    if !tables_fit(b, held.len(), side1.len(), side2.len()) {
-        return 0;
+    if !tables_fit(view) {
+        return None;
     }
-    kind_in(b, held, side1, side2, n)
+    Some(kind_in(view, n))
 }

@@ -1,19 +1,22 @@
 -- The places of a day's periods lie in the tables of a sound book, and its sums are gathered slot by slot in the front of what is lent.
 use mathlib.Core.Bool.{false}
-use mathlib.Core.List.{List}
+use mathlib.Core.List.{List, ◌++◌}
 use mathlib.Core.Path.{◌≡◌, refl, sym, ap, ◌∙◌}
-use Prim.Native.Nat.{ℕ, suc, ◌+◌, ◌≤◌, ◌<◌}
+use Prim.Native.Nat.{ℕ, suc, ◌+◌, ◌-◌, ◌≤◌, ◌<◌}
 use native.Mathlib.Omega.{arith}
 use lib.Dec.{eqb}
 use lib.IntN.{ℤ, pos, nat_abs, ◌+ℤ◌, +ℤ_idr}
-use lib.ListN.{length, get_or}
+use lib.ListN.{length, get_or, replicate, drop, length-append, length-replicate, get_or-append, get_or-replicate}
 use mir.Syntax.{w64}
 use mir.Val.{SFits}
+use Rattle.std.proofs.Common.{length-drop}
+use Rattle.std.proofs.lemmas.List.{get_or-drop}
+use Rattle.std.proofs.Math.Seq.{get_or-append_right}
 use borrow.Author.Tests.{eqb-false}
 use Rattle.words.specs.Below.{sum_belowℤ}
 use Rattle.words.specs.Lists.{on_front}
 use Rattle.laws.proofs.Cases.{on, or_left, or_right}
-use Rattle.laws.proofs.Fronts.{front_at, front_kept, front_same, front-join}
+use Rattle.laws.proofs.Fronts.{front_at, front-is, front_kept, front_same, front-join}
 use Rattle.laws.proofs.Machine.{abs-fits}
 use Rattle.laws.proofs.Sums.{sum_more, sum_bound}
 use Rattle.laws.proofs.Whole.{abs-add}
@@ -127,3 +130,12 @@ module _ (b : Book) (held : List ℕ) (side1 side2 : List ℤ) (account d : ℕ)
   sums-bounded a slot periods cleared out h k e p l =
       let q : get_or out p (pos 0) ≡ sums_below slot p (pos 0) = ap (λ (xs : List ℤ). get_or xs p (pos 0)) e ∙ front_at periods (sums_below slot) cleared (pos 0) p l (omega arith) in
       rw q (sums-small a slot p h)
+
+-- what is filled from the front on is that front rewritten
+pub front-filled : (n : ℕ) (z : ℤ) (l : List ℤ) → n ≤ length l → replicate n z ++ drop n l ≡ on_front n (λ (p : ℕ) (old : ℤ). z) l
+front-filled n z l h =
+    let long : length (replicate n z) ≡ n = length-replicate n z in
+    front-is n (λ (p : ℕ) (old : ℤ). z) l (pos 0) (replicate n z ++ drop n l)
+    (length-append (replicate n z) (drop n l) ∙ omega (arith, long, length-drop n l))
+    (λ k i m. get_or-append (replicate n z) (drop n l) (pos 0) k (omega arith) ∙ get_or-replicate n k z (pos 0) m)
+    (λ k i m. get_or-append_right (replicate n z) (drop n l) k (pos 0) (omega arith) ∙ get_or-drop n l (k - length (replicate n z)) (pos 0) ∙ ap (λ (j : ℕ). get_or l j (pos 0)) (omega arith))

@@ -1,18 +1,18 @@
 -- The parts above and below zero, their bounds, and the figures that are given.
-use mathlib.Core.Bool.{Bool, true, false, true≢false}
+use mathlib.Core.Bool.{Bool, true, false}
 use mathlib.Core.List.{List}
 use mathlib.Core.Logic.{◌≢◌}
 use mathlib.Core.Path.{◌≡◌, refl, sym, ap, ◌∙◌}
-use Prim.Native.Nat.{ℕ, suc, ◌+◌, ◌≤◌}
+use Prim.Native.Nat.{ℕ, zero, suc, ◌+◌, ◌≤◌}
 use native.Mathlib.Nat.{le_refl}
 use native.Mathlib.Omega.{arith}
 use lib.Dec.{eqb}
 use lib.IntN.{ℤ, pos, negsuc, neg_ℤ, nat_abs, ◌-ℤ◌}
 use lib.ListN.{length, get_or}
-use lib.Signed.{lt_z}
 use mir.Syntax.{w64}
 use mir.Val.{SFits}
-use borrow.Author.Tests.{ltb-true, ne_eqb}
+use borrow.Author.Tests.{lt-ltb, ne_eqb}
+use Rattle.std.specs.Int.{int_max}
 use Rattle.laws.proofs.Machine.{abs-fits}
 use Rattle.laws.proofs.Whole.{abs_neg, abs-add, zero-less}
 use Rattle.laws.proofs.Sums.{sum-ext, sum-zero, sum_bound}
@@ -25,31 +25,29 @@ use Rattle.meaning.specs.Ledgers.{contracts, index, origin_in}
 use Rattle.meaning.specs.Totals.{counted, above_zero, below_zero, day_sum, sold, bought, figures_rules, figures}
 use Rattle.meaning.proofs.Clock.{periods-le}
 use Rattle.meaning.proofs.Counted.{counted-small}
+use Rattle.meaning.proofs.Figures.{zero-positive}
 use Rattle.meaning.proofs.Sound.{parts}
 use Rattle.book.specs.declared.Book.{Book}
 use Rattle.book.specs.Structs.{rows_in, book_of}
 use Rattle.position.proofs.TotalLaws.{Asked}
 use Rattle.position.proofs.DayLaws.{slots-few, counted-from, foreign-none}
 use Rattle.position.specs.Counting.{DayAsked, counted_at, part_of, slot_part, figures_for}
-use Rattle.position.specs.Totals.{figured}
+use Rattle.position.specs.Totals.{no_figures, figured}
 
 -- ---- what is below zero, negated; and what is above
 
-pub below-negated : (z : ℤ) → lt_z z (pos 0) ≡ true → pos 0 -ℤ z ≡ below_zero z
-below-negated (pos n) e = absurd (omega (arith, ltb-true n 0 e))
-below-negated (negsuc n) e = zero-less (negsuc n)
+pub above-max : (z : ℤ) → int_max z (pos 0) ≡ above_zero z
+above-max (pos zero) = refl
+above-max (pos (suc n)) = rw (lt-ltb 0 (suc n) (omega arith))
+above-max (negsuc n) = refl
 
-pub below_none : (z : ℤ) → lt_z z (pos 0) ≡ false → pos 0 ≡ below_zero z
-below_none (pos n) e = refl
-below_none (negsuc n) e = absurd (true≢false e)
+negated-max : (z : ℤ) → int_max (neg_ℤ z) (pos 0) ≡ below_zero z
+negated-max (pos zero) = refl
+negated-max (pos (suc n)) = refl
+negated-max (negsuc n) = rw (lt-ltb 0 (suc n) (omega arith))
 
-pub above-none : (z : ℤ) → lt_z z (pos 0) ≡ true → pos 0 ≡ above_zero z
-above-none (pos n) e = absurd (omega (arith, ltb-true n 0 e))
-above-none (negsuc n) e = refl
-
-pub above-all : (z : ℤ) → lt_z z (pos 0) ≡ false → z ≡ above_zero z
-above-all (pos n) e = refl
-above-all (negsuc n) e = absurd (true≢false e)
+pub below-max : (z : ℤ) → int_max (pos 0 -ℤ z) (pos 0) ≡ below_zero z
+below-max z = ap (λ (y : ℤ). int_max y (pos 0)) (zero-less z) ∙ negated-max z
 
 pub part_small : (below : Bool) (z : ℤ) → nat_abs (part_of below z) ≤ nat_abs z
 unfolding part_of
@@ -111,11 +109,11 @@ net-fits a b h k = abs-fits {w = w64} {z = a -ℤ b} (omega (arith, abs-differen
 -- ---- what the question gives
 
 module _ (b : Meaning.Book contracts) (account D : ℕ) where
-  pub figures-refused : (n : ℕ) → n ≡ answer (figures_rules b account D) → n ≢ 0 → record { answer = n; day = figures_for (pos 0) (pos 0) } ≡ figured b account D
-  unfolding figured figures figures_for
+  pub figures-refused : (n : ℕ) → n ≡ answer (figures_rules b account D) → n ≢ 0 → record { answer = n; day = no_figures } ≡ figured b account D
+  unfolding figured figures
   figures-refused n e z =
       let r : eqb (answer (figures_rules b account D)) 0 ≡ false = ne_eqb (answer (figures_rules b account D)) 0 (λ q. z (e ∙ q)) in
-      rw (e, r)
+      rw (e, r, zero-positive)
 
   pub figures-given : Asked b account D
       → record { answer = 0; day = figures_for (day_sum (part_of false) b account (day_of b.setting.time D)) (day_sum (part_of true) b account (day_of b.setting.time D)) } ≡ figured b account D

@@ -2,28 +2,14 @@
 ghost use Rattle.std.specs.Prelude.{true, false, ◌≡◌, ◌≤◌, ◌<◌, nat_abs};
 ghost use Rattle.meaning.specs.Totals.{day_sum};
 ghost use Rattle.setups.specs.Structs.{row_of};
-ghost use Rattle.book.specs.Structs.{book_of};
-ghost use Rattle.position.specs.Counting.{DayAsked, PartInside, SumsOf, part_of, slot_part, figures_for};
-ghost use Rattle.position.specs.Totals.{figured};
+ghost use Rattle.book.specs.Structs.{book_seen};
+ghost use Rattle.position.specs.Counting.{PartInside, SumsOf, part_of, slot_part, figures_for};
+ghost use Rattle.position.specs.Totals.{figured_of, figured};
 
-use crate::{DayFigures, Figured, Sums, counting};
-
-// Of what is counted, what is below zero, negated; or what is above zero.
-fn part_of(kwh: i64, below: bool) -> i64
-    requires { nat_abs kwh ≤ 2147483648 }
-    ensures { (result ≡ part_of below kwh) × (nat_abs result ≤ 2147483648) }
-{
-    if below {
-        if kwh < 0 {
-            return -kwh;
-        }
-        return 0;
-    }
-    if kwh < 0 {
-        return 0;
-    }
-    kwh
-}
+use crate::counting::{self, AskedDay};
+use crate::{DayFigures, Sums};
+use book::BookView;
+use limits::refusals::Refusal;
 
 // What a slot sold and bought over the periods of a day, whose first has this place in the tables. No branch within the loop but selections.
 fn slot_sums(
@@ -41,50 +27,39 @@ fn slot_sums(
 {
     let mut sold: i64 = 0;
     let mut bought: i64 = 0;
-    if !figures::in_pair(origin, account) {
-        return Sums {
-            sold: sold,
-            bought: bought,
-        };
+    if figures::in_pair(origin, account) {
+        for p in 0..periods {
+            let kwh = counting::counted_at(origin, account, side1, side2, first + p);
+            sold += kwh.max(0);
+            bought += (-kwh).max(0);
+        }
     }
-    let mut p: usize = 0;
-    while p < periods {
-        let kwh = counting::counted_at(origin, account, side1, side2, first + p);
-        sold += part_of(kwh, false);
-        bought += part_of(kwh, true);
-        p += 1;
-    }
-    Sums {
-        sold: sold,
-        bought: bought,
-    }
+    Sums { sold, bought }
 }
 
-// What all slots sold and bought over the day at place d. A sound book's slots are few, so the sums fit and are converted exactly.
-fn day_sums(b: book::Book, held: &[u32], side1: &[i32], side2: &[i32], account: u8, d: u8) -> Sums
-    requires { DayAsked (book_of b held.now side1.now side2.now) d }
-    ensures { let before = book_of b held.now side1.now side2.now in
+// What all slots sold and bought over the day. A sound book's slots are few, so the sums fit and are converted exactly.
+fn day_sums(day: AskedDay<'_>, account: u8) -> Sums
+    ensures { let before = book_seen day.entry.view in
+        let d = day.entry.place in
         SumsOf result (day_sum (part_of false) before account d) (day_sum (part_of true) before account d) 27487790694400 }
 {
-    let periods = clock::periods_at(book::state::clock_of(b), d) as usize;
-    let rows = b.setup.rows;
+    let periods = clock::periods_at(book::state::clock_of(day.view.book), day.place) as usize;
     let mut sold: i64 = 0;
     let mut bought: i64 = 0;
-    let mut slot: usize = 0;
-    while slot < held.len() {
-        let entry = held[slot];
-        let row = rows[book::state::origin_place(entry)];
-        let origin = book::state::origin_row(b.setup.authorisations, entry, row);
-        let first = ledger::place_of(slot as u8, b.setup.days, d, 0);
-        let sums = slot_sums(origin, account, side1, side2, first, periods);
+    for slot in 0..day.view.held.len() {
+        let at = counting::slot_day(&day, slot);
+        let sums = slot_sums(
+            at.origin,
+            account,
+            day.view.side1,
+            day.view.side2,
+            at.first,
+            periods,
+        );
         sold += sums.sold;
         bought += sums.bought;
-        slot += 1;
     }
-    Sums {
-        sold: sold,
-        bought: bought,
-    }
+    Sums { sold, bought }
 }
 
 // The net figure is the difference of the whole numbers, so that each of the three is rounded once.
@@ -100,29 +75,11 @@ fn day_figures(sold: i64, bought: i64) -> DayFigures
     }
 }
 
-// The answer to a day's figures of an account, and the figures; positive zero with a refusal.
-pub fn figures(
-    b: book::Book,
-    held: &[u32],
-    side1: &[i32],
-    side2: &[i32],
-    account: u8,
-    day: u16,
-) -> Figured
-    ensures { result ≡ figured (book_of b held.now side1.now side2.now) account day }
+// A day's figures of an account.
+pub fn figures(view: BookView<'_>, account: u8, day: u16) -> Result<DayFigures, Refusal>
+    ensures { figured_of result ≡ figured (book_seen view.entry) account day }
 {
-    let refusal = counting::day_refusal(b, held, side1, side2, account, day);
-    if refusal != 0 {
-        return Figured {
-            answer: refusal,
-            day: day_figures(0, 0),
-        };
-    }
-    let s = b.setup;
-    let d = (day - s.first) as u8;
-    let sums = day_sums(b, held, side1, side2, account, d);
-    Figured {
-        answer: 0,
-        day: day_figures(sums.sold, sums.bought),
-    }
+    let asked = counting::day_asked(view, account, day)?;
+    let sums = day_sums(asked, account);
+    Ok(day_figures(sums.sold, sums.bought))
 }

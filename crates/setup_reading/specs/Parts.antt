@@ -2,13 +2,11 @@
 use Rattle.std.specs.Prelude.{List, ℕ, ◌+◌, ◌*◌, get_or, if◌then◌else◌}
 use Rattle.words.specs.Tests.{◌<?◌}
 use Rattle.words.specs.Lists.{build}
-use Rattle.words.specs.Rules.{answer}
 use Rattle.words.specs.Fields.{field_at, total, read_all}
-use Rattle.meaning.specs.PackedSetups.{head_layout, row_layout, setup_layout_for, content_rules}
+use Rattle.meaning.specs.PackedSetups.{head_layout, row_layout, setup_layout_for}
 use Rattle.setups.specs.Structs.{no_authorisation}
 use Rattle.setups.specs.declared.Authorisation.{Authorisation}
 use Rattle.setups.specs.declared.Setup.{Setup}
-use Rattle.setup_reading.specs.declared.Content.{Content}
 
 -- row k stands behind the head, the codes and k rows
 unfoldable pub row_in : List ℕ → ℕ → ℕ → Authorisation
@@ -26,7 +24,3 @@ unfoldable pub setup_struct_in : List ℕ → Setup
 setup_struct_in s =
     let v : ℕ → ℕ = λ j. get_or (read_all s 0 head_layout) j 0 in
     record { first = v 0; days = v 1; accounts = v 2; authorisations = v 3; codes = codes_in s (v 1); rows = rows_in s (v 1) (v 3) }
-
--- what the bytes hold, and the number that refuses it before their padding is looked at
-unfoldable pub content_in : List ℕ → ℕ → ℕ → ℕ → Content
-content_in bytes slots lent1 lent2 = record { answer = answer (content_rules bytes slots lent1 lent2); setup = setup_struct_in bytes }

@@ -5,28 +5,47 @@ ghost use Rattle.std.specs.Prelude.{not, ◌≡◌, eqb};
 ghost use Rattle.words.specs.Rules.{answer};
 ghost use Rattle.words.specs.Fields.{total, padding, field_at};
 ghost use Rattle.meaning.specs.PackedSetups.{setup_layout_for, content_rules, setup_reading_rules, read_setup};
-ghost use Rattle.setups.specs.Structs.{no_setup_struct};
-ghost use Rattle.setup_reading.specs.Structs.{setup_read};
-ghost use Rattle.setup_reading.specs.Parts.{row_in, codes_in, rows_in, setup_struct_in, content_in};
+ghost use Rattle.limits.specs.Refusals.{answer_of};
+ghost use Rattle.setup_reading.specs.Structs.{setup_read, as_setup_read};
+ghost use Rattle.setup_reading.specs.Parts.{row_in, codes_in, rows_in, setup_struct_in};
 
-use limits::numbers;
+use fields::AtFront;
+use limits::refusals::Refusal;
 use setups::{Authorisation, Setup, layouts, rules};
 
-// With a refusal the length is 0 and the setup all zero.
+// What C is given. With a refusal the length is 0 and the setup all zero.
 #[repr(C)]
 #[derive(Clone, Copy)]
 pub struct SetupRead {
     pub answer: u8,
     pub length: usize,
-    pub setup: setups::Setup,
+    pub setup: Setup,
 }
 
-// What the bytes hold, and the number that refuses it before their padding is looked at, or 0.
-#[repr(C)]
+impl From<Result<AtFront<Setup>, Refusal>> for SetupRead {
+    ghost from_gives = { λ outcome read. read ≡ as_setup_read outcome };
+
+    fn from(outcome: Result<AtFront<Setup>, Refusal>) -> SetupRead {
+        match outcome {
+            Ok(front) => SetupRead {
+                answer: 0,
+                length: front.length,
+                setup: front.value,
+            },
+            Err(refusal) => SetupRead {
+                answer: refusal.into(),
+                length: 0,
+                setup: Setup::NONE,
+            },
+        }
+    }
+}
+
+// What the bytes hold, and whether anything refuses it before their padding is looked at. The setup is there with a refusal too.
 #[derive(Clone, Copy)]
 pub struct Content {
-    pub answer: u8,
-    pub setup: setups::Setup,
+    pub outcome: Result<(), Refusal>,
+    pub setup: Setup,
 }
 
 const HEAD_BYTES: usize = 5;
@@ -44,9 +63,13 @@ pub fn padding_set(bytes: &[u8], days: u8, authorisations: u8) -> bool
 fn row_in(bytes: &[u8], days: u8, k: u8) -> Authorisation
     ensures { result ≡ row_in bytes.now days k }
 {
-    let widths = layouts::ROW_WIDTHS;
     let mut v = [0u32; 8];
-    fields::read_fields(bytes, layouts::bits_for(days, k), &widths, &mut v);
+    fields::read_fields(
+        bytes,
+        layouts::bits_for(days, k),
+        &layouts::ROW_WIDTHS,
+        &mut v,
+    );
     Authorisation {
         agent1: v[0] as u8,
         agent2: v[1] as u8,
@@ -63,17 +86,10 @@ fn row_in(bytes: &[u8], days: u8, k: u8) -> Authorisation
 fn codes_in(bytes: &[u8], days: u8) -> [u8; limits::MOST_DAYS_WIDE]
     ensures { result ≡ codes_in bytes.now days }
 {
-    let mut codes = [0u8; limits::MOST_DAYS_WIDE];
-    let mut d: u8 = 0;
-    while d < limits::MOST_DAYS {
-        if d < days {
-            codes[d as usize] = fields::read_field(
-                bytes,
-                layouts::HEAD_BITS + layouts::CODE_BITS * d as u32,
-                2,
-            ) as u8;
-        }
-        d += 1;
+    let mut codes = [0; limits::MOST_DAYS_WIDE];
+    for d in 0..days.min(limits::MOST_DAYS) {
+        let at = layouts::HEAD_BITS + layouts::CODE_BITS * d as u32;
+        codes[d as usize] = fields::read_field(bytes, at, 2) as u8;
     }
     codes
 }
@@ -82,23 +98,9 @@ fn codes_in(bytes: &[u8], days: u8) -> [u8; limits::MOST_DAYS_WIDE]
 fn rows_in(bytes: &[u8], days: u8, count: u8) -> [Authorisation; limits::MOST_AUTHORISATIONS_WIDE]
     ensures { result ≡ rows_in bytes.now days count }
 {
-    let mut rows = [Authorisation {
-        agent1: 0,
-        agent2: 0,
-        account1: 0,
-        account2: 0,
-        key: 0,
-        first: 0,
-        last: 0,
-        amendment: 0,
-    }; limits::MOST_AUTHORISATIONS_WIDE];
-    let mut k: u8 = 0;
-    while k < limits::MOST_AUTHORISATIONS {
-        if k < count {
-            let a = row_in(bytes, days, k);
-            rows[k as usize] = a;
-        }
-        k += 1;
+    let mut rows = [Authorisation::NONE; limits::MOST_AUTHORISATIONS_WIDE];
+    for k in 0..count.min(limits::MOST_AUTHORISATIONS) {
+        rows[k as usize] = row_in(bytes, days, k);
     }
     rows
 }
@@ -107,115 +109,94 @@ fn rows_in(bytes: &[u8], days: u8, count: u8) -> [Authorisation; limits::MOST_AU
 fn setup_in(bytes: &[u8]) -> Setup
     ensures { result ≡ setup_struct_in bytes.now }
 {
-    let widths = layouts::HEAD_WIDTHS;
     let mut v = [0u32; 4];
-    fields::read_fields(bytes, 0, &widths, &mut v);
+    fields::read_fields(bytes, 0, &layouts::HEAD_WIDTHS, &mut v);
     let days = v[1] as u8;
     let authorisations = v[3] as u8;
     let codes = codes_in(bytes, days);
     let rows = rows_in(bytes, days, authorisations);
     Setup {
         first: v[0] as u16,
-        days: days,
+        days,
         accounts: v[2] as u8,
-        authorisations: authorisations,
-        codes: codes,
-        rows: rows,
+        authorisations,
+        codes,
+        rows,
     }
 }
 
-// A setup whose every field is zero: what a refusal gives.
-pub fn no_setup() -> Setup
-    ensures { result ≡ no_setup_struct }
-{
-    Setup {
-        first: 0,
-        days: 0,
-        accounts: 0,
-        authorisations: 0,
-        codes: [0u8; limits::MOST_DAYS_WIDE],
-        rows: [Authorisation {
-            agent1: 0,
-            agent2: 0,
-            account1: 0,
-            account2: 0,
-            key: 0,
-            first: 0,
-            last: 0,
-            amendment: 0,
-        }; limits::MOST_AUTHORISATIONS_WIDE],
-    }
-}
-
-// 19, 17, 19, 17, 18: the number that refuses these bytes, which hold the setup `s`, before their padding is looked at, or 0.
-fn content_refusal(bytes: &[u8], s: Setup, slots: usize, lent1: usize, lent2: usize) -> u8
+// What refuses these bytes, which hold the setup `s`, before their padding is looked at: 19, 17, 19, 17, 18.
+fn content_refusal(
+    bytes: &[u8],
+    s: Setup,
+    slots: usize,
+    lent1: usize,
+    lent2: usize,
+) -> Result<(), Refusal>
     requires { s ≡ setup_struct_in bytes.now }
-    ensures { result ≡ answer (content_rules bytes.now slots lent1 lent2) }
+    ensures { answer_of result ≡ answer (content_rules bytes.now slots lent1 lent2) }
 {
     if bytes.len() < HEAD_BYTES {
-        return numbers::BYTES_END_TOO_SOON;
+        return Err(Refusal::BytesEndTooSoon);
     }
     if rules::counts_wrong(s)
         | rules::last_day_wrong(s)
         | rules::lent_wrong(s, slots, lent1, lent2)
     {
-        return numbers::SETUP_WRONG;
+        return Err(Refusal::SetupWrong);
     }
     if bytes.len() < layouts::bytes_for(s.days, s.authorisations) {
-        return numbers::BYTES_END_TOO_SOON;
+        return Err(Refusal::BytesEndTooSoon);
     }
     if rules::code_wrong(s) {
-        return numbers::SETUP_WRONG;
+        return Err(Refusal::SetupWrong);
     }
     if rules::some_row_wrong(s) {
-        return numbers::ROW_WRONG;
+        return Err(Refusal::RowWrong);
     }
-    0
+    Ok(())
 }
 
 // The setup in hand, whatever its padding: a checked setup is held against the calendar after this, and before its padding is looked at (02, A2).
 pub fn content_in(bytes: &[u8], slots: usize, lent1: usize, lent2: usize) -> Content
-    ensures { result ≡ content_in bytes.now slots lent1 lent2 }
+    ensures outcome { answer_of result.outcome ≡ answer (content_rules bytes.now slots lent1 lent2) }
+    ensures setup { result.setup ≡ setup_struct_in bytes.now }
 {
-    let s = setup_in(bytes);
-    let answer = content_refusal(bytes, s, slots, lent1, lent2);
-    Content {
-        answer: answer,
-        setup: s,
-    }
+    let setup = setup_in(bytes);
+    let outcome = content_refusal(bytes, setup, slots, lent1, lent2);
+    Content { outcome, setup }
 }
 
-// The number that refuses these bytes for so many slots and two lent tables of these lengths, or 0.
-pub fn reading_refusal(bytes: &[u8], slots: usize, lent1: usize, lent2: usize) -> u8
-    ensures { result ≡ answer (setup_reading_rules bytes.now slots lent1 lent2) }
+// What refuses these bytes for so many slots and two lent tables of these lengths.
+pub fn reading_refusal(
+    bytes: &[u8],
+    slots: usize,
+    lent1: usize,
+    lent2: usize,
+) -> Result<(), Refusal>
+    ensures { answer_of result ≡ answer (setup_reading_rules bytes.now slots lent1 lent2) }
 {
     let content = content_in(bytes, slots, lent1, lent2);
-    if content.answer != 0 {
-        return content.answer;
+    content.outcome?;
+    if padding_set(bytes, content.setup.days, content.setup.authorisations) {
+        return Err(Refusal::PaddingBit);
     }
-    let s = content.setup;
-    if padding_set(bytes, s.days, s.authorisations) {
-        return numbers::PADDING_BIT;
-    }
-    0
+    Ok(())
 }
 
-// The setup at the front of the bytes: its answer, its length and itself. Bytes after it belong to the messages.
-pub fn read_setup(bytes: &[u8], slots: usize, lent1: usize, lent2: usize) -> SetupRead
-    ensures { result ≡ setup_read (read_setup bytes.now slots lent1 lent2) }
+// The setup at the front of the bytes. Bytes after it belong to the messages.
+pub fn read_setup(
+    bytes: &[u8],
+    slots: usize,
+    lent1: usize,
+    lent2: usize,
+) -> Result<AtFront<Setup>, Refusal>
+    ensures { as_setup_read result ≡ setup_read (read_setup bytes.now slots lent1 lent2) }
 {
-    let answer = reading_refusal(bytes, slots, lent1, lent2);
-    if answer != 0 {
-        return SetupRead {
-            answer: answer,
-            length: 0,
-            setup: no_setup(),
-        };
-    }
-    let s = setup_in(bytes);
-    SetupRead {
-        answer: 0,
-        length: layouts::bytes_for(s.days, s.authorisations),
-        setup: s,
-    }
+    reading_refusal(bytes, slots, lent1, lent2)?;
+    let setup = setup_in(bytes);
+    Ok(AtFront {
+        length: layouts::bytes_for(setup.days, setup.authorisations),
+        value: setup,
+    })
 }

@@ -8,6 +8,9 @@ use denote.MutBor.{MutBor}
 use denote.Ref.{Bor}
 use lib.ListN.{length, get_or, take, drop}
 use borrow.Author.Tests.{lt-ltb, le-ltb}
+use Rattle.std.specs.Prelude.{Result, Ok}
+use Rattle.fields.specs.declared.AtFront.{AtFront}
+use Rattle.limits.specs.declared.refusals.Refusal.{Refusal}
 use Rattle.words.specs.Lists.{build}
 use Rattle.laws.proofs.Bits.{Bytes}
 use Rattle.laws.proofs.Builds.{length-build, get_or-build, get_or-build-past, build-same}
@@ -20,9 +23,11 @@ use Rattle.meaning.proofs.PackedSetupRules.{setup-reading-answer, setup-reading-
 use Rattle.setups.specs.Structs.{no_authorisation, row_of, row_for, rows_of, codes_of, setup_of, setup_for}
 use Rattle.setup_reading.specs.Structs.{setup_read}
 use Rattle.setup_reading.specs.declared.SetupRead.{SetupRead}
+use Rattle.setup_reading.proofs.Outcomes.{setup-read-tells}
 use Rattle.setup_reading.proofs.read_setup.Reads as read-setup
 use Rattle.setup_writing.specs.Structs.{setup_written, settled}
-use Rattle.setup_writing.specs.declared.SetupWritten.{SetupWritten}
+use Rattle.fields.specs.declared.WrittenBytes.{WrittenBytes}
+use Rattle.fields.proofs.Fronts.{written-tells}
 use Rattle.setup_writing.proofs.write_setup.Reads as write-setup
 use Rattle.setups.specs.declared.Setup.{Setup}
 use Rattle.setup_reading.proofs.ReadParts.{struct_holds, few-codes, few-rows}
@@ -86,21 +91,26 @@ read-setup-writes bytes out slots lent1 lent2 b c e l =
     rw (read-holds bytes slots lent1 lent2 e) (setup-read-writes bytes out slots lent1 lent2 b c e l)
 
 -- the same of the functions' own promises: what `write_setup` leaves, `read_setup` gives back
-pub write-then-read-setup : (κs κs' : Lfts 1) (s : Setup) (out left : MutBor (List ℕ)) (bytes : Bor (List ℕ)) (slots lent1 lent2 : ℕ) (r : SetupWritten) (r' : SetupRead)
-    → write-setup.Post κs (s, (out, tt)) r (s, (left, tt)) → bytes.now ≡ left.now → read-setup.Post κs' (bytes, (slots, (lent1, (lent2, tt)))) r' (bytes, (slots, (lent1, (lent2, tt))))
-    → r.answer ≡ 0 → lent_wrong (setup_of s) slots lent1 lent2 ≡ false → r' ≡ record { answer = 0; length = r.length; setup = settled s }
-write-then-read-setup κs κs' s out left bytes slots lent1 lent2 r r' p same q e h =
-    q
+pub write-then-read-setup : (κs κs' : Lfts 1) (s : Setup) (out left : MutBor (List ℕ)) (bytes : Bor (List ℕ)) (slots lent1 lent2 n : ℕ) (r : Result (AtFront Setup) Refusal)
+    → write-setup.Post κs (s, (out, tt)) (Ok n) (s, (left, tt)) → bytes.now ≡ left.now → read-setup.Post κs' (bytes, (slots, (lent1, (lent2, tt)))) r (bytes, (slots, (lent1, (lent2, tt))))
+    → lent_wrong (setup_of s) slots lent1 lent2 ≡ false → r ≡ Ok (record { length = n; value = settled s })
+write-then-read-setup κs κs' s out left bytes slots lent1 lent2 n r p same q h =
+    setup-read-tells r (Ok (record { length = n; value = settled s }))
+    (q
     ∙ ap (λ (bytes : List ℕ). setup_read (read_setup bytes slots lent1 lent2)) (same ∙ p.1)
-    ∙ written-setup-reads s out.now slots lent1 lent2 (ap (λ (w : SetupWritten). w.answer) (sym p.0) ∙ e) h
-    ∙ ap (λ (w : SetupWritten). record { answer = 0; length = w.length; setup = settled s }) (sym p.0)
+    ∙ written-setup-reads s out.now slots lent1 lent2 (ap (λ (w : WrittenBytes). w.answer) (sym p.0)) h
+    ∙ ap (λ (w : WrittenBytes). record { answer = 0; length = w.length; setup = settled s }) (sym p.0))
 
 -- and what `read_setup` gives, `write_setup` writes again, over the front of its buffer
-pub read-then-write-setup : (κs κs' : Lfts 1) (bytes : Bor (List ℕ)) (out left : MutBor (List ℕ)) (slots lent1 lent2 : ℕ) (r : SetupRead) (r' : SetupWritten)
-    → read-setup.Post κs (bytes, (slots, (lent1, (lent2, tt)))) r (bytes, (slots, (lent1, (lent2, tt)))) → write-setup.Post κs' (r.setup, (out, tt)) r' (r.setup, (left, tt))
-    → Bytes bytes.now → Bytes out.now → r.answer ≡ 0 → r.length ≤ length out.now
-    → (r' ≡ record { answer = 0; length = r.length }) × (left.now ≡ take r.length bytes.now ++ drop r.length out.now)
+pub read-then-write-setup : (κs κs' : Lfts 1) (bytes : Bor (List ℕ)) (out left : MutBor (List ℕ)) (slots lent1 lent2 : ℕ) (front : AtFront Setup) (r : Result ℕ Refusal)
+    → read-setup.Post κs (bytes, (slots, (lent1, (lent2, tt)))) (Ok front) (bytes, (slots, (lent1, (lent2, tt)))) → write-setup.Post κs' (front.value, (out, tt)) r (front.value, (left, tt))
+    → Bytes bytes.now → Bytes out.now → front.length ≤ length out.now
+    → (r ≡ Ok front.length) × (left.now ≡ take front.length bytes.now ++ drop front.length out.now)
 unfolding setup_written
-read-then-write-setup κs κs' bytes out left slots lent1 lent2 r r' q p b c e l =
-    let again = read-setup-writes bytes.now out.now slots lent1 lent2 b c (ap (λ (x : SetupRead). x.answer) (sym q) ∙ e) (rw q at l) in
-    (p.0 ∙ rw (q, again), p.1 ∙ rw (q, again))
+read-then-write-setup κs κs' bytes out left slots lent1 lent2 front r q p b c l =
+    let length-read = ap (λ (x : SetupRead). x.length) q in
+    let setup-read = ap (λ (x : SetupRead). x.setup) q in
+    let again = read-setup-writes bytes.now out.now slots lent1 lent2 b c (ap (λ (x : SetupRead). x.answer) (sym q)) (rw length-read at l) in (
+      written-tells r (Ok front.length) (p.0 ∙ rw (setup-read, length-read, again)),
+      p.1 ∙ rw (setup-read, length-read, again),
+    )

@@ -2,7 +2,7 @@
 use mathlib.Core.Bool.{true}
 use mathlib.Core.List.{List, [], ◌∷◌, ◌++◌}
 use mathlib.Core.Path.{◌≡◌, refl, sym, ap, ◌∙◌}
-use Prim.Native.Nat.{ℕ, zero, suc, ◌+◌, ◌*◌, ◌≤◌}
+use Prim.Native.Nat.{ℕ, zero, suc, ◌+◌, ◌*◌, ◌≤◌, min}
 use native.Mathlib.Nat.{zero-add}
 use native.Mathlib.Numerals.{add-one}
 use native.Mathlib.Omega.{arith}
@@ -12,7 +12,7 @@ use Rattle.std.specs.Prelude.{if◌then◌else◌}
 use Rattle.words.specs.Tests.{◌<?◌}
 use Rattle.words.specs.Lists.{build}
 use Rattle.words.specs.Fields.{set_field, total, times, write_all, fit, padding}
-use Rattle.laws.proofs.Cases.{on, by-eq}
+use Rattle.laws.proofs.Cases.{on, by-eq, by-lt}
 use Rattle.laws.proofs.Builds.{length-build}
 use Rattle.laws.proofs.Fields.{set-field-length}
 use Rattle.laws.proofs.Layouts.{fit_length, times-length, times-total, write-append, write-length}
@@ -114,6 +114,13 @@ module _ (s : Setup) (out : List ℕ) where
       (λ e. ap (codes_into s out) (sym e))
       (λ e. rw (le-ltb n s.days (omega arith)) (codes-past n (omega arith)))
 
+  -- a loop that ends with the days, or with the eighth place
+  pub codes-capped : (d : ℕ) → d ≡ min s.days 8 → codes_into s out d ≡ codes_into s out 8
+  codes-capped d e =
+      by-lt 8 s.days
+      (λ h. let q : d ≡ 8 = omega arith in ap (codes_into s out) q)
+      (λ h. let q : d ≡ s.days = omega arith in ap (codes_into s out) q ∙ sym (codes-past 8 h))
+
   -- ---- the rows as one layout
 
   rows_step : (k : ℕ) → write_all out (34 + 2 * s.days) (times (k + 1) row_layout) (row_values (rows_of (k + 1) s.rows))
@@ -143,6 +150,12 @@ module _ (s : Setup) (out : List ℕ) where
       by-eq s.authorisations (suc n)
       (λ e. ap (rows_into s out) (sym e))
       (λ e. rw (le-ltb n s.authorisations (omega arith)) (rows-past n (omega arith)))
+
+  pub rows-capped : (k : ℕ) → k ≡ min s.authorisations 64 → rows_into s out k ≡ rows_into s out 64
+  rows-capped k e =
+      by-lt 64 s.authorisations
+      (λ h. let q : k ≡ 64 = omega arith in ap (rows_into s out) q)
+      (λ h. let q : k ≡ s.authorisations = omega arith in ap (rows_into s out) q ∙ sym (rows-past 64 h))
 
 -- ---- the whole
 

@@ -1,10 +1,8 @@
 -- What a setup struct holds: the lengths of its arrays, the ranges of its numbers, and how many codes and rows are its own.
-use mathlib.Core.Bool.{not}
 use mathlib.Core.List.{List, [], ◌∷◌}
-use mathlib.Core.Path.{◌≡◌}
+use mathlib.Core.Path.{◌≡◌, sym, ◌∙◌}
 use Prim.Native.Nat.{ℕ, zero, suc, ◌<◌}
 use native.Mathlib.Omega.{arith}
-use lib.Dec.{eqb}
 use lib.ListN.{length, get_or}
 use mir.Val.{Val}
 use denote.Array.{each}
@@ -12,8 +10,12 @@ use denote.Shadow.{shadow}
 use denote.Laws.{Is}
 use denote.Struct.Declared.{row}
 use denote.Struct.Laws.{owed, vals}
-use borrow.Author.Tests.{lt-ltb, le-ltb, ne_eqb}
-use Rattle.std.specs.Prelude.{if◌then◌else◌}
+use borrow.Author.Tests.{lt-ltb, le-ltb}
+use Rattle.std.specs.Prelude.{if◌then◌else◌, Result, Ok, Err}
+use Rattle.std.specs.Result.{is_err}
+use Rattle.limits.specs.declared.refusals.Refusal.{Refusal}
+use Rattle.limits.specs.Refusals.{number_of, answer_of}
+use Rattle.limits.proofs.AnswerNumbers.{never-done}
 use Rattle.words.specs.Tests.{◌<?◌}
 use Rattle.laws.proofs.Cases.{by-lt}
 use Rattle.laws.proofs.Builds.{length-build}
@@ -33,12 +35,16 @@ pub rows-own : (n : ℕ) (rows : List Authorisation) → length (rows_of n rows)
 unfolding rows_of
 rows-own n rows = length-build n _
 
--- a refusal by number that passes three of four refuses the fourth
-pub fourth-refused : (n r : ℕ) → 0 < r → not (eqb (if n <? 3 then 0 else r) 0) ≡ 2 <? n
-fourth-refused n r p =
+-- what passes three of four refuses the fourth
+pub fourth-refused : (n : ℕ) (refusal : Refusal) (r : Result Unit Refusal) → answer_of r ≡ (if n <? 3 then 0 else number_of refusal) → is_err r ≡ 2 <? n
+fourth-refused n refusal (Ok _) e =
     by-lt n 3
-    (λ h. rw (lt-ltb n 3 h, le-ltb 2 n (omega arith)))
-    (λ h. rw (le-ltb n 3 h, ne_eqb r 0 (omega arith), lt-ltb 2 n (omega arith)))
+    (λ h. sym (le-ltb 2 n (omega arith)))
+    (λ h. never-done refusal (sym (e ∙ rw (le-ltb n 3 h))))
+fourth-refused n refusal (Err r) e =
+    by-lt n 3
+    (λ h. never-done r (e ∙ rw (lt-ltb n 3 h)))
+    (λ h. sym (lt-ltb 2 n (omega arith)))
 
 -- what the widths of a row's fields say of them
 abbrev pub Small : Authorisation → Type 0

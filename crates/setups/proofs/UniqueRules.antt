@@ -1,4 +1,5 @@
 -- No two different results keep one promise of the rules, or of who writes which side.
+use Rattle.limits.proofs.AnswerNumbers.{same-answer}
 use Rattle.laws.proofs.Cases.{one-outcome}
 use Rattle.laws.proofs.Promises.{OneResult}
 use Rattle.setups.proofs.authorisations.writes_side1.Reads as writes-side1
@@ -28,10 +29,10 @@ pub unique-lent-wrong : OneResult lent-wrong.Post
 unique-lent-wrong κs a r r' s s' = one-outcome
 
 pub unique-code-refusal : OneResult code-refusal.Post
-unique-code-refusal κs a r r' s s' = one-outcome
+unique-code-refusal κs a r r' s s' p q = same-answer r r' (one-outcome p q)
 
 pub unique-amendment-refusal : OneResult amendment-refusal.Post
-unique-amendment-refusal κs a r r' s s' = one-outcome
+unique-amendment-refusal κs a r r' s s' p q = same-answer r r' (one-outcome p q)
 
 pub unique-code-wrong : OneResult code-wrong.Post
 unique-code-wrong κs a r r' s s' = one-outcome

@@ -1,5 +1,5 @@
 // Who writes which side: "agent 1 writes side 1, agent 2 side 2"; an agent that is both writes both. The row is handed over, since reading one out of a
-// book copies all of them.
+// book copies all of them. Two functions stay, since one would take the side as well, and a branch on it is longer than the two.
 ghost use Rattle.std.specs.Prelude.{◌≡◌};
 ghost use Rattle.words.specs.Tests.{◌=?◌};
 

@@ -3,6 +3,8 @@ ghost use Rattle.std.specs.Prelude.{◌≡◌};
 ghost use Rattle.words.specs.Fields.{total, bytes_for, padding};
 ghost use Rattle.meaning.specs.PackedSetups.{setup_layout_for};
 
+use fields::whole_bits;
+
 // "first day 16, days 4, accounts 7, authorisations 7"
 pub const HEAD_WIDTHS: [u8; 4] = [16, 4, 7, 7];
 // "agents 8 and 8, accounts 6 and 6, key 16, first day 16, last day 16, type 2"
@@ -25,13 +27,12 @@ pub fn bits_for(days: u8, authorisations: u8) -> u32
 pub fn bytes_for(days: u8, authorisations: u8) -> usize
     ensures { result ≡ bytes_for (setup_layout_for days authorisations) }
 {
-    ((bits_for(days, authorisations) + 7) / 8) as usize
+    whole_bits::bytes_of(bits_for(days, authorisations))
 }
 
 // The bits that are left over in the last byte.
 pub fn padding_for(days: u8, authorisations: u8) -> u8
     ensures { result ≡ padding (setup_layout_for days authorisations) }
 {
-    let bits = bits_for(days, authorisations);
-    ((bits + 7) / 8 * 8 - bits) as u8
+    whole_bits::padding_of(bits_for(days, authorisations))
 }

@@ -1,11 +1,12 @@
 // The sheet program (document 01, "The sheet program"): reads a setup and then messages from standard input, however many, and prints the sheet.
-// What is printed is decided by the proved parts in crate sheet_parts; here is reading, lending and printing. Where standard input cannot be read or
-// standard output not be written, nothing more is read or printed, and the program ends with that error.
+// What is printed is decided by the proved parts in crate sheet_parts; here is reading, lending and printing. Where standard input cannot be read
+// or standard output not be written, nothing more is read or printed, and the program ends with that error. The tables are lent apart, since
+// messages change them (crate book, `BookView`).
 #![tactic(auto)]
 
 ghost use Rattle.std.specs.Prelude.{true, ◌≡◌, ◌≤◌, length};
 
-use book::Book;
+use book::{Book, BookView};
 use sheet_parts::{beginning, input, totals, turns};
 use std::io;
 use std::io::{Read, Stdin, Stdout, Write};
@@ -37,25 +38,13 @@ struct Finished {
 }
 
 // The input is taken in parts of at most so many bytes. The longest setup that a head can name has 1,247.
-fn input_buffer() -> [u8; 2048]
-    ensures { 2048 ≡ length result }
-{
-    [0; 2048]
-}
+const INPUT_BYTES: usize = 2048;
 
 // What is printed is written in here first, a turn or an account's day at a time.
-fn output_buffer() -> [u8; 65536]
-    ensures { 65536 ≡ length result }
-{
-    [0; 65536]
-}
+const OUTPUT_BYTES: usize = 65536;
 
-// A side's table for 16 slots and the 15 days that a packed setup can name.
-fn side_table() -> [i32; 12000]
-    ensures { 12000 ≡ length result }
-{
-    [0; 12000]
-}
+// A side's table has places for 16 slots and the 15 days that a packed setup can name.
+const SIDE_PLACES: usize = 12000;
 
 // Prints the front of the buffer. No line is written past its end.
 fn print(streams: &mut Streams, out: &[u8], written: usize) {
@@ -80,7 +69,8 @@ fn read_some(streams: &mut Streams, bytes: &mut [u8]) -> usize
     }
 }
 
-// Reads until the buffer is full or the input has ended, and answers how many bytes are at its front then.
+// Reads until the buffer is full or the input has ended, and answers how many bytes are at its front then. A `while`: each read says how much it
+// gave.
 fn read_full(streams: &mut Streams, bytes: &mut [u8]) -> usize
     ensures { result ≤ length bytes.new }
 {
@@ -120,9 +110,8 @@ fn take_turn(
 {
     let at_hand = read_on(streams, bytes, before.kept);
     let ended = at_hand < bytes.len();
-    let b = before.book;
     let told = turns::turn(
-        b,
+        before.book,
         before.seen,
         &bytes[..at_hand],
         ended,
@@ -134,17 +123,16 @@ fn take_turn(
         out,
     );
     print(streams, out, told.written);
-    let after = told.book;
     Progress {
         going: told.going,
         seen: told.seen,
         kept: input::keep(bytes, told.used, at_hand),
-        book: after,
+        book: told.book,
     }
 }
 
 // The messages, turn by turn, until a turn does not go on. A proved loop has to end, and nothing says that the input does: so it may end too after as
-// many turns as 64 bits count, which no run uses up.
+// many turns as 64 bits count, which no run uses up. The promise names how many were taken, so they are counted.
 fn print_messages(
     streams: &mut Streams,
     start: Progress,
@@ -158,8 +146,8 @@ fn print_messages(
     ensures { result.going ≡ true → result.turns ≡ 18446744073709551615 }
 {
     // A message takes a byte or more, so there is room for the answer to each that is at hand, and for its place.
-    let mut answers = input_buffer();
-    let mut places = input_buffer();
+    let mut answers = [0u8; INPUT_BYTES];
+    let mut places = [0u8; INPUT_BYTES];
     let mut progress = start;
     let mut turns: u64 = 0;
     while (turns < u64::MAX) & progress.going {
@@ -176,30 +164,19 @@ fn print_messages(
         );
         turns += 1;
     }
-    let after = progress.book;
     Finished {
         going: progress.going,
-        turns: turns,
+        turns,
         seen: progress.seen,
-        book: after,
+        book: progress.book,
     }
 }
 
 // The totals, rising by account, day and period.
-fn print_totals(
-    streams: &mut Streams,
-    b: Book,
-    held: &[u32],
-    side1: &[i32],
-    side2: &[i32],
-    out: &mut [u8],
-) {
-    let all = totals::account_days(b);
-    let mut k: u16 = 0;
-    while k < all {
-        let written = totals::put_account_day(b, held, side1, side2, k, out);
+fn print_totals(streams: &mut Streams, view: BookView<'_>, out: &mut [u8]) {
+    for k in 0..totals::account_days(view.book) {
+        let written = totals::put_account_day(view, k, out);
         print(streams, out, written);
-        k += 1;
     }
 }
 
@@ -216,8 +193,13 @@ fn print_rest(
     requires { start.kept ≤ length bytes.old }
 {
     let end = print_messages(streams, start, bytes, held, side1, side2, out);
-    let after = end.book;
-    print_totals(streams, after, held, side1, side2, out);
+    let view = BookView {
+        book: end.book,
+        held,
+        side1,
+        side2,
+    };
+    print_totals(streams, view, out);
     let written = sheet_lines::put_end_line(out, 0, end.seen);
     print(streams, out, written);
 }
@@ -235,17 +217,15 @@ fn print_sheet(
 {
     let begun = beginning::begin(&bytes[..have], held, side1, side2, out);
     print(streams, out, begun.written);
-    if begun.answer != 0 {
-        return;
+    if let Ok(front) = begun.opened {
+        let start = Progress {
+            going: true,
+            seen: 0,
+            kept: input::keep(bytes, front.length, have),
+            book: front.value,
+        };
+        print_rest(streams, start, bytes, held, side1, side2, out);
     }
-    let b = begun.book;
-    let start = Progress {
-        going: true,
-        seen: 0,
-        kept: input::keep(bytes, begun.used, have),
-        book: b,
-    };
-    print_rest(streams, start, bytes, held, side1, side2, out);
 }
 
 fn main(rt: HostRuntime) -> io::Result<()> {
@@ -254,11 +234,11 @@ fn main(rt: HostRuntime) -> io::Result<()> {
         stdout: rt.stdout(),
         so_far: Ok(()),
     };
-    let mut bytes = input_buffer();
-    let mut out = output_buffer();
+    let mut bytes = [0u8; INPUT_BYTES];
+    let mut out = [0u8; OUTPUT_BYTES];
     let mut held = [0u32; beginning::SLOTS];
-    let mut table1 = side_table();
-    let mut table2 = side_table();
+    let mut table1 = [0i32; SIDE_PLACES];
+    let mut table2 = [0i32; SIDE_PLACES];
     let have = read_full(&mut streams, &mut bytes);
     let lent = beginning::lent_for(&bytes[..have]);
     print_sheet(

@@ -1,6 +1,6 @@
--- Laws of sizes, written texts and outcomes in two buffers; how long a line is; and that no two outcomes meet one promise.
+-- Laws of signs, written texts and outcomes in two buffers; how long a line is; and that no two outcomes meet one promise.
 pub mod Texts
-pub mod Sizes
+pub mod Signs
 pub mod Outcomes
 pub mod Sequences
 pub mod Lengths

@@ -1,8 +1,6 @@
 -- The outcomes in two buffers, by their places; and a list of outcomes kept in two buffers is in them.
-use Rattle.std.proofs.Common.{◌≡◌, ℕ, zero, suc, ◌<◌, ◌≤◌, min, false, ◌&&◌, List, [], ◌∷◌, length, get_or, refl, ap, le_of_suc-le-suc, not-suc-le-zero, arith, ltb-false, lt-ltb}
-use Rattle.words.specs.Tests.{◌<?◌}
+use Rattle.std.proofs.Common.{◌≡◌, ℕ, zero, suc, ◌<◌, min, List, [], ◌∷◌, length, get_or, refl, ap, le_of_suc-le-suc, not-suc-le-zero, arith}
 use Rattle.words.specs.Rules.{Outcome, placeless}
-use Rattle.laws.proofs.Cases.{by-lt}
 use Rattle.meaning.specs.PackedCalls.{answers_in, places_in}
 use Rattle.sheet_lines.specs.Outcomes.{outcomes_of}
 
@@ -19,13 +17,6 @@ outcome-at [] places k a p = absurd (not-suc-le-zero a)
 outcome-at (answer ∷ answers) [] k a p = absurd (not-suc-le-zero p)
 outcome-at (answer ∷ answers) (place ∷ places) zero a p = refl
 outcome-at (answer ∷ answers) (place ∷ places) (suc k) a p = outcome-at answers places k (le_of_suc-le-suc a) (le_of_suc-le-suc p)
-
--- where one of the buffers has ended, the outcomes have
-pub outcomes-end : (answers places : List ℕ) (k : ℕ) → (k <? length answers) && (k <? length places) ≡ false → length (outcomes_of answers places) ≤ k
-outcomes-end answers places k e =
-    by-lt k (length answers)
-    (λ a. omega (arith, outcomes-count answers places, ltb-false k (length places) (rw (lt-ltb k (length answers) a) at e)))
-    (λ a. omega (arith, outcomes-count answers places))
 
 -- THE BUFFERS LOSE NOTHING: answers and places taken apart are the outcomes again
 pub outcomes-whole : (outcomes : List Outcome) → outcomes_of (answers_in outcomes) (places_in outcomes) ≡ outcomes

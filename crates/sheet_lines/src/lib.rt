@@ -1,99 +1,26 @@
-// The lines that the sheet program prints (document 01, "The sheet program"), as bytes in a lent buffer.
+// The lines that the sheet program prints (document 01, "The sheet program"), as bytes in a lent buffer. The buffer and the place
+// are two parameters, as in decimals.
 #![tactic(auto)]
 
-ghost use Rattle.std.specs.Prelude.{◌≡◌, ◌+◌, ◌%◌, ◌≤◌, length, unsigned_abs};
+ghost use Rattle.std.specs.Prelude.{◌≡◌, ◌+◌, ◌≤◌, length};
 ghost use Rattle.meaning.specs.Decimals.{decimal, signed};
 ghost use Rattle.meaning.specs.SheetLines.{field, fields, beginning, line, sheet_line, carries_place, message_line, message_lines, total_line, end_line, setup_line};
+ghost use Rattle.decimals.specs.Texts.{Written};
 ghost use Rattle.sheet_lines.specs.Outcomes.{outcomes_of};
-ghost use Rattle.sheet_lines.specs.Places.{most_bytes, has_room, Written, Puts, PutsAll};
+ghost use Rattle.sheet_lines.specs.Places.{most_bytes, Puts, PutsAll};
+
+use limits::refusals::Refusal;
 
 // No line is longer, so a line is written only where so many bytes are free.
 const MOST_BYTES: usize = 64;
-
-const ZERO: u8 = b'0';
-
-const LEAST: i64 = -9223372036854775808;
-
-// Whether there is room for any line from `at` on, in a buffer of this size.
-fn has_room(size: usize, at: usize) -> bool
-    ensures { result ≡ has_room size at }
-{
-    if size < at {
-        return false;
-    }
-    MOST_BYTES <= size - at
-}
-
-// Writes the bytes of a word, and answers the place after it.
-fn put_word(out: &mut [u8], at: usize, word: &[u8]) -> usize
-    requires { at + length word.now ≤ length out.old }
-    ensures { Written out.old at word.now out.new result }
-{
-    let mut k: usize = 0;
-    while k < word.len() {
-        out[at + k] = word[k];
-        k += 1;
-    }
-    at + k
-}
-
-// How many decimal digits a number has.
-fn digit_count(number: u64) -> usize
-    ensures { result ≡ length (decimal number) }
-{
-    let mut count: usize = 1;
-    let mut rest = number;
-    while 10 <= rest {
-        rest = rest / 10;
-        count += 1;
-    }
-    count
-}
-
-// The last digit of a number, in ASCII.
-fn last_digit(number: u64) -> u8
-    ensures { result ≡ 48 + number % 10 }
-{
-    ZERO + (number % 10) as u8
-}
-
-// Writes a number in decimal, and answers the place after it. The digits are found from the last one on, so that is where the writing starts.
-fn put_decimal(out: &mut [u8], at: usize, number: u64) -> usize
-    requires { at + length (decimal number) ≤ length out.old }
-    ensures { Written out.old at (decimal number) out.new result }
-{
-    let after = at + digit_count(number);
-    let mut place = after - 1;
-    let mut rest = number;
-    while 10 <= rest {
-        out[place] = last_digit(rest);
-        rest = rest / 10;
-        place -= 1;
-    }
-    out[place] = last_digit(rest);
-    after
-}
 
 // Writes a single space and a number.
 fn put_field(out: &mut [u8], at: usize, number: u64) -> usize
     requires { at + length (field (decimal number)) ≤ length out.old }
     ensures { Written out.old at (field (decimal number)) out.new result }
 {
-    let start = put_word(out, at, b" ");
-    put_decimal(out, start, number)
-}
-
-// The size of a number, whatever its sign. The least one cannot be negated: its size fits only without a sign.
-fn size(x: i64) -> u64
-    ensures { result ≡ unsigned_abs x }
-{
-    if x == LEAST {
-        return 9223372036854775808;
-    }
-    if x < 0 {
-        return (-x) as u64;
-    }
-    x as u64
+    let start = decimals::put_word(out, at, b" ");
+    decimals::put_decimal(out, start, number)
 }
 
 // Writes a single space and a number that may be below zero.
@@ -102,10 +29,10 @@ fn put_signed_field(out: &mut [u8], at: usize, number: i64) -> usize
     ensures { Written out.old at (field (signed number)) out.new result }
 {
     if number < 0 {
-        let start = put_word(out, at, b" -");
-        return put_decimal(out, start, size(number));
+        let start = decimals::put_word(out, at, b" -");
+        return decimals::put_decimal(out, start, decimals::size(number));
     }
-    put_field(out, at, size(number))
+    put_field(out, at, decimals::size(number))
 }
 
 // Writes numbers, each after a single space.
@@ -114,10 +41,8 @@ fn put_fields(out: &mut [u8], at: usize, numbers: &[u64]) -> usize
     ensures { Written out.old at (fields numbers.now) out.new result }
 {
     let mut place = at;
-    let mut k: usize = 0;
-    while k < numbers.len() {
-        place = put_field(out, place, numbers[k]);
-        k += 1;
+    for number in numbers {
+        place = put_field(out, place, *number);
     }
     place
 }
@@ -127,7 +52,7 @@ fn put_beginning(out: &mut [u8], at: usize, word: &[u8], numbers: &[u64]) -> usi
     requires { at + length (beginning word.now numbers.now) ≤ length out.old }
     ensures { Written out.old at (beginning word.now numbers.now) out.new result }
 {
-    let after_word = put_word(out, at, word);
+    let after_word = decimals::put_word(out, at, word);
     put_fields(out, after_word, numbers)
 }
 
@@ -136,11 +61,11 @@ fn put_line(out: &mut [u8], at: usize, word: &[u8], numbers: &[u64]) -> usize
     requires { length (line word.now numbers.now) ≤ most_bytes }
     ensures { Puts (line word.now numbers.now) out.old at out.new result }
 {
-    if !has_room(out.len(), at) {
+    if !decimals::has_room(out.len(), at, MOST_BYTES) {
         return at;
     }
     let after_numbers = put_beginning(out, at, word, numbers);
-    put_word(out, after_numbers, b"\n")
+    decimals::put_word(out, after_numbers, b"\n")
 }
 
 // "sheet FIRST DAYS ACCOUNTS": the first line.
@@ -155,7 +80,7 @@ pub fn put_sheet_line(out: &mut [u8], at: usize, first: u16, days: u8, accounts:
 fn carries_place(answer: u8) -> bool
     ensures { result ≡ carries_place answer }
 {
-    (answer == limits::numbers::PERIOD_WRONG) | (answer == limits::numbers::VOLUME_WRONG)
+    answer == Refusal::PeriodWrong.into() || answer == Refusal::VolumeWrong.into()
 }
 
 // "m NUMBER ANSWER": a message's number, which counts from 1, and its answer; the place, counted from 0, stands behind an answer that carries one.
@@ -163,11 +88,9 @@ pub fn put_message_line(out: &mut [u8], at: usize, number: u64, answer: u8, plac
     ensures { Puts (message_line number (record { answer = answer; place = place })) out.old at out.new result }
 {
     if carries_place(answer) {
-        let with_place = [number, answer as u64, place as u64];
-        return put_line(out, at, b"m", &with_place);
+        return put_line(out, at, b"m", &[number, answer as u64, place as u64]);
     }
-    let numbers = [number, answer as u64];
-    put_line(out, at, b"m", &numbers)
+    put_line(out, at, b"m", &[number, answer as u64])
 }
 
 // The lines of messages one after the other, the first of which has this number, as long as there is room: an answer and the place beside it for each.
@@ -182,11 +105,9 @@ pub fn put_message_lines(
 {
     let mut next = at;
     let mut number = first;
-    let mut k: usize = 0;
-    while (k < answers.len()) & (k < places.len()) {
-        next = put_message_line(out, next, number, answers[k], places[k]);
-        number = std::num::wrapping_add_u64(number, 1);
-        k += 1;
+    for (answer, place) in answers.iter().zip(places) {
+        next = put_message_line(out, next, number, *answer, *place);
+        number = number.wrapping_add(1);
     }
     next
 }
@@ -202,27 +123,25 @@ pub fn put_total_line(
 ) -> usize
     ensures { Puts (total_line account day period kwh) out.old at out.new result }
 {
-    if !has_room(out.len(), at) {
+    if !decimals::has_room(out.len(), at, MOST_BYTES) {
         return at;
     }
     let numbers = [account as u64, day as u64, period as u64];
     let after_numbers = put_beginning(out, at, b"t", &numbers);
     let after_kwh = put_signed_field(out, after_numbers, kwh);
-    put_word(out, after_kwh, b"\n")
+    decimals::put_word(out, after_kwh, b"\n")
 }
 
 // "end COUNT": the messages seen.
 pub fn put_end_line(out: &mut [u8], at: usize, count: u64) -> usize
     ensures { Puts (end_line count) out.old at out.new result }
 {
-    let numbers = [count];
-    put_line(out, at, b"end", &numbers)
+    put_line(out, at, b"end", &[count])
 }
 
 // "setup NUMBER": a refused setup, and why.
 pub fn put_setup_line(out: &mut [u8], at: usize, number: u8) -> usize
     ensures { Puts (setup_line number) out.old at out.new result }
 {
-    let numbers = [number as u64];
-    put_line(out, at, b"setup", &numbers)
+    put_line(out, at, b"setup", &[number as u64])
 }

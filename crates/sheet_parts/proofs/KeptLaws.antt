@@ -1,52 +1,40 @@
--- What is left of the bytes at hand, brought to the front of their buffer byte by byte.
-use Rattle.std.proofs.Common.{◌≡◌, ℕ, ◌+◌, ◌-◌, ◌<◌, ◌≤◌, Bool, cond, ◌&&◌, leb, List, length, get_or, take, set, sym, ap, ◌∙◌, zero-add, arith, length-drop, length-take-le, get_or-drop, take_all, get_or-take, le-ltb}
-use lib.Seq.{sets}
-use Rattle.laws.proofs.Cases.{by-lt, and-false}
-use Rattle.laws.proofs.Stores.{sets_more, get_d_sets}
+-- What is left of the bytes at hand, as the part of their buffer that is brought to its front.
+use Rattle.std.proofs.Common.{◌≡◌, ℕ, ◌-◌, ◌≤◌, min, List, length, take, drop, refl, sym, ap, ◌∙◌, zero-add, arith, length-drop, length-take-le, take_all, drop_of_length-le}
+use Rattle.std.proofs.lemmas.Slice.{between_is}
+use lib.Seq.{sets, paste}
+use Rattle.laws.proofs.Cases.{by-lt}
+use Rattle.laws.proofs.PartStores.{front-sets}
 use Rattle.sheet_parts.specs.Parts.{kept_of}
 
-module _ (used have : ℕ) (input : List ℕ) where
+-- the part ends where the bytes at hand do, and begins where those that are used end
+module _ (used have : ℕ) (input : List ℕ) (end from : ℕ) (e : end ≡ min have (length input)) (f : from ≡ min used end) where
   abbrev kept : List ℕ
   kept = kept_of used have input
 
-  -- as many as are at hand, without those used
-  kept-count : (have ≤ length input → length kept ≡ have - used) × (length input ≤ have → length kept ≡ length input - used)
-  unfolding kept_of
-  kept-count =
-      let d = length-drop used (take have input) in
-      ((λ h. d ∙ ap (λ (n : ℕ). n - used) (length-take-le have input h)), (λ h. d ∙ ap (λ (l : List ℕ). length l - used) (take_all have input h)))
-
-  pub one-more-kept : (k : ℕ) → used + k < have → used + k < length input → k < length kept
-  one-more-kept k h l =
+  at-hand : take end input ≡ take have input
+  at-hand =
       by-lt have (length input)
-      (λ w. omega (arith, kept-count.0 (omega arith)))
-      (λ w. omega (arith, kept-count.1 w))
+      (λ h. let z : end ≡ have = omega arith in rw z)
+      (λ h. take_all end input (omega arith) ∙ sym (take_all have input h))
 
-  pub all-kept : (k : ℕ) → k ≤ length kept → (used + k < have → length input ≤ used + k) → length kept ≡ k
-  all-kept k m n =
-      by-lt have (length input)
-      (λ w. by-lt (used + k) have (λ h. absurd (omega (arith, n h, w))) (λ h. omega (arith, kept-count.0 (omega arith))))
-      (λ w. by-lt (used + k) have (λ h. omega (arith, n h, kept-count.1 w)) (λ h. omega (arith, kept-count.1 w)))
-
-  -- the byte that is read has not been written over yet
-  kept_byte : (k : ℕ) → k < length kept → used + k < have → get_or kept k 0 ≡ get_or input (used + k) 0
+  pub kept-count : length kept ≡ end - from
   unfolding kept_of
-  kept_byte k h l = get_or-drop used (take have input) k 0 ∙ get_or-take have input (used + k) 0 l
+  kept-count = omega (arith, length-drop used (take have input), ap length at-hand, length-take-le end input (omega arith))
 
-  unwritten : (k : ℕ) → k < length kept → used + k < length input → get_or (sets input 0 (take k kept)) (used + k) 0 ≡ get_or input (used + k) 0
-  unwritten k h l =
-      get_d_sets input 0 (take k kept) (used + k) 0 l
-      ∙ ap (λ (t : Bool). cond (leb 0 (used + k) && t) (get_or (take k kept) (used + k - 0) 0) (get_or input (used + k) 0))
-      (le-ltb (used + k) (0 + length (take k kept)) (omega (arith, length-take-le k kept (omega arith))))
-      ∙ ap (λ (t : Bool). cond t (get_or (take k kept) (used + k - 0) 0) (get_or input (used + k) 0)) (and-false (leb 0 (used + k)))
+  part : take (end - from) (drop from input) ≡ kept
+  unfolding kept_of
+  part =
+      between_is input from end
+      ∙ by-lt used end
+      (λ h. let z : from ≡ used = omega arith in rw (z, at-hand))
+      (λ h.
+      drop_of_length-le (take end input) {i = from} (omega (arith, length-take-le end input (omega arith)))
+      ∙ sym (drop_of_length-le (take have input) {i = used} (omega (arith, ap length at-hand, length-take-le end input (omega arith)))))
 
-  pub kept_more : (k : ℕ) → k < length kept → used + k < have → used + k < length input
-      → set (sets input 0 (take k kept)) k (get_or (sets input 0 (take k kept)) (used + k) 0) ≡ sets input 0 (take (k + 1) kept)
-  kept_more k h l m =
-      ap (set (sets input 0 (take k kept)) k) (unwritten k h m ∙ sym (kept_byte k h l))
-      ∙ ap (λ (j : ℕ). set (sets input 0 (take k kept)) j (get_or kept k 0)) (sym (zero-add k))
-      ∙ sym (sets_more input 0 kept k 0 h)
+  pub brought : paste input 0 (drop from input) (end - from) ≡ sets input 0 kept
+  brought =
+      rw (part, zero-add (end - from)) (front-sets input (end - from) kept kept-count (omega arith))
 
-  -- no more than there are bytes at all
-  pub kept-fits : length kept ≤ length input
-  kept-fits = by-lt have (length input) (λ w. omega (arith, kept-count.0 (omega arith))) (λ w. omega (arith, kept-count.1 w))
+-- no more than there are bytes at all
+pub kept-fits : (used have : ℕ) (input : List ℕ) → length (kept_of used have input) ≤ length input
+kept-fits used have input = omega (arith, kept-count used have input (min have (length input)) (min used (min have (length input))) refl refl)

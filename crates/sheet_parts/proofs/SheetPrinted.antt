@@ -26,7 +26,7 @@ use Rattle.sheet_turns.specs.Turns.{line_for, first_line, seen_after, Turn, all_
 use Rattle.sheet_turns.proofs.ByTurns.{all_told, Enough, printed-sheet}
 use Rattle.sheet_parts.specs.Parts.{begun_of, account_days, account_day_lines}
 use Rattle.sheet_parts.specs.Program.{State, BeginsOn, account_days_in, TotalsPut, no-total, one-total, Prints, refused, sheet}
-use Rattle.sheet_parts.specs.declared.Begun.{Begun}
+use Rattle.sheet_parts.specs.Seen.{Begun}
 use Rattle.sheet_parts.proofs.AccountDays.{own-days, join-append, every-account-day}
 use Rattle.sheet_parts.proofs.DayRoom.{few-of-account-day}
 use Rattle.sheet_parts.proofs.Fronts.{front-line, front-lines}

@@ -1,9 +1,13 @@
 -- A turn from what its calls ensure: the run, the last answer, whether that is waited for, how many are told, and their lines.
 use Rattle.std.proofs.Common.{◌≡◌, ℕ, ◌+◌, ◌%◌, ◌^◌, ◌≤◌, Bool, true, false, not, ◌&&◌, ◌||◌, List, length, take, refl, ap, ◌∙◌, arith}
+use Rattle.std.specs.Prelude.{Result, Ok, Err}
+use Rattle.std.specs.Result.{result_unwrap_or}
+use Rattle.limits.specs.declared.refusals.Refusal.{Refusal}
 use Rattle.words.specs.Tests.{◌≤?◌}
 use Rattle.meaning.specs.PackedCalls.{Run, answers_in}
 use Rattle.book.specs.declared.Book.{Book}
-use Rattle.calls.specs.Answers.{ran_of}
+use Rattle.calls.specs.Answers.{ran_of, ran_seen}
+use Rattle.calls.specs.declared.Run as Ran
 use Rattle.calls.specs.declared.AppliedAll.{AppliedAll}
 use Rattle.meaning.specs.SheetLines.{message_lines}
 use Rattle.sheet_lines.specs.Outcomes.{outcomes_of}
@@ -11,6 +15,12 @@ use Rattle.sheet_lines.specs.Places.{all_placed, PutsAll}
 use Rattle.sheet_turns.specs.Turns.{last_in, waits_for, waits, count_told, told_count, told, goes, told_lines, seen_after}
 use Rattle.sheet_parts.specs.Parts.{turned_of}
 use Rattle.sheet_parts.proofs.Answers.{Stored, last_stored, told-stored}
+
+-- A run that is refused has done nothing, and that is what the code goes on with.
+pub goes-on : (b : Book) (r : Result Ran.Run Refusal) (ran : Ran.Run) → ran ≡ result_unwrap_or r (record { done = 0; used = 0; book = b })
+    → record { answer = (ran_seen b r).answer; done = ran.done; used = ran.used; book = ran.book } ≡ ran_seen b r
+goes-on b (Ok run) ran e = rw e
+goes-on b (Err refusal) ran e = rw e
 
 -- never more than there are
 pub few-told : (waiting : Bool) (count : ℕ) → count_told waiting count ≤ count

@@ -3,8 +3,10 @@ use Rattle.std.proofs.Common.{◌≡◌, ℕ, Bool, List, ℤ}
 use Rattle.laws.proofs.Cases.{one-outcome}
 use Rattle.laws.proofs.Promises.{OneResult}
 use Rattle.book.specs.declared.Book.{Book}
+use Rattle.book.proofs.OpeningLaws.{same-opened-packed}
 use Rattle.sheet_parts.specs.Promises.{Begins, Turns, Keeps, PutsAccountDay}
-use Rattle.sheet_parts.specs.declared.Begun.{Begun}
+use Rattle.sheet_parts.specs.Seen.{Begun, begun_seen}
+use Rattle.sheet_parts.specs.declared.Begun as Given
 use Rattle.sheet_parts.specs.declared.Turned.{Turned}
 use Rattle.sheet_parts.proofs.beginning.lent_for.Reads as lent-for
 use Rattle.sheet_parts.proofs.totals.account_days.Reads as account-days
@@ -21,6 +23,12 @@ unique-keep used have input left left' r r' p q = (one-outcome p.0 q.0, one-outc
 pub unique-put-account-day : (b : Book) (held : List ℕ) (side1 side2 : List ℤ) (k : ℕ) (out left left' : List ℕ) (r r' : ℕ)
     → PutsAccountDay b held side1 side2 k out left r → PutsAccountDay b held side1 side2 k out left' r' → (left ≡ left') × (r ≡ r')
 unique-put-account-day b held side1 side2 k out left left' r r' p q = (one-outcome p.0 q.0, one-outcome p.1 q.1)
+
+-- a beginning as the meaning tells it tells all of the code's
+pub begun-tells : (g h : Given.Begun) → begun_seen g ≡ begun_seen h → g ≡ h
+begun-tells g h e =
+    let same = same-opened-packed g.opened h.opened (λ i. record { answer = (e i).answer; length = (e i).used; book = (e i).book }) in
+    λ i. record { opened = same i; written = (e i).written }
 
 pub unique-begin : (bytes held : List ℕ) (side1 side2 : List ℤ) (out : List ℕ) (r r' : Begun) (h h' : List ℕ) (l1 l1' l2 l2' : List ℤ) (text text' : List ℕ)
     → Begins bytes held side1 side2 out r h l1 l2 text → Begins bytes held side1 side2 out r' h' l1' l2' text' → (r ≡ r') × (h ≡ h') × (l1 ≡ l1') × (l2 ≡ l2') × (text ≡ text')

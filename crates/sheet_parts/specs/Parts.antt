@@ -14,7 +14,7 @@ use Rattle.calls.specs.Answers.{book_at}
 use Rattle.sheet_lines.specs.Places.{place_after, place_after_all}
 use Rattle.meaning.specs.Sheet.{period_lines, day_lines}
 use Rattle.sheet_turns.specs.Turns.{first_line, told_count, told, goes, told_lines, seen_after}
-use Rattle.sheet_parts.specs.declared.Begun.{Begun}
+use Rattle.sheet_parts.specs.Seen.{Begun}
 use Rattle.sheet_parts.specs.declared.Turned.{Turned}
 
 -- where the lent buffer has this size

@@ -6,7 +6,7 @@ use Rattle.meaning.specs.SheetLines.{end_line}
 use Rattle.sheet_lines.specs.Places.{Puts}
 use Rattle.meaning.specs.Sheet.{slots, lent_for}
 use Rattle.sheet_parts.specs.Promises.{Begins, Turns, Keeps, PutsAccountDay}
-use Rattle.sheet_parts.specs.declared.Begun.{Begun}
+use Rattle.sheet_parts.specs.Seen.{Begun}
 use Rattle.sheet_parts.specs.declared.Turned.{Turned}
 
 -- a book by value, its lent tables, and the buffer that is lent for lines

@@ -9,7 +9,7 @@ use Rattle.book.specs.Answers.{held_opened, side_opened}
 use Rattle.sheet_lines.specs.Places.{placed, all_placed, PutsAll}
 use Rattle.sheet_turns.specs.Turns.{first_line, told, told_lines}
 use Rattle.sheet_parts.specs.Parts.{begun_of, turned_of, account_day_lines, kept_of}
-use Rattle.sheet_parts.specs.declared.Begun.{Begun}
+use Rattle.sheet_parts.specs.Seen.{Begun}
 use Rattle.sheet_parts.specs.declared.Turned.{Turned}
 
 -- `begin`: its result, the three tables and the buffer

@@ -1,11 +1,17 @@
-// The setup at the front of the input, the book that it opens, and the first line.
+// The setup at the front of the input, the book that it opens, and the first line. The tables that a call changes are lent apart (crate book,
+// `BookView`).
 ghost use Rattle.std.specs.Prelude.{◌≡◌, ◌≤◌, length};
 ghost use Rattle.sheet_lines.specs.Places.{Puts};
 ghost use Rattle.meaning.specs.Sheet.{lent_for};
 ghost use Rattle.sheet_turns.specs.Turns.{line_for};
+ghost use Rattle.book.specs.Answers.{opened_packed_seen};
+ghost use Rattle.sheet_parts.specs.Seen.{begun_seen};
 ghost use Rattle.sheet_parts.specs.Promises.{Begins};
 
 use crate::Begun;
+use book::Book;
+use fields::AtFront;
+use limits::refusals::Refusal;
 
 pub const SLOTS: usize = 16;
 
@@ -21,14 +27,18 @@ pub fn lent_for(bytes: &[u8]) -> usize
     SLOTS * fields::read_field(bytes, DAYS_AT, DAYS_BITS) as usize * limits::PLACES_A_DAY
 }
 
-// The first line: "sheet" where nothing refuses the setup, else "setup" and the number.
-fn put_first_line(out: &mut [u8], answer: u8, first: u16, days: u8, accounts: u8) -> usize
-    ensures { Puts (line_for answer first days accounts) out.old 0 out.new result }
+// The first line: "sheet" where a book is opened, else "setup" and the number.
+fn put_first_line(out: &mut [u8], opened: Result<AtFront<Book>, Refusal>) -> usize
+    ensures { let o = opened_packed_seen opened in
+        Puts (line_for o.answer o.book.setup.first o.book.setup.days o.book.setup.accounts) out.old 0 out.new result }
 {
-    if answer != 0 {
-        return sheet_lines::put_setup_line(out, 0, answer);
+    match opened {
+        Ok(front) => {
+            let s = front.value.setup;
+            sheet_lines::put_sheet_line(out, 0, s.first, s.days, s.accounts)
+        }
+        Err(refusal) => sheet_lines::put_setup_line(out, 0, refusal.into()),
     }
-    sheet_lines::put_sheet_line(out, 0, first, days, accounts)
 }
 
 // Opens the book from the packed setup, and writes the first line.
@@ -39,16 +49,9 @@ pub fn begin(
     side2: &mut [i32],
     out: &mut [u8],
 ) -> Begun
-    ensures { Begins bytes.now held.old side1.old side2.old out.old result held.new side1.new side2.new out.new }
+    ensures { Begins bytes.now held.old side1.old side2.old out.old (begun_seen result) held.new side1.new side2.new out.new }
 {
-    let done = book::opening::open_packed(bytes, held, side1, side2);
-    let b = done.book;
-    let s = b.setup;
-    let written = put_first_line(out, done.answer, s.first, s.days, s.accounts);
-    Begun {
-        answer: done.answer,
-        used: done.length,
-        written: written,
-        book: b,
-    }
+    let opened = book::opening::open_packed(bytes, held, side1, side2);
+    let written = put_first_line(out, opened);
+    Begun { opened, written }
 }

@@ -5,12 +5,8 @@ ghost use Rattle.sheet_parts.specs.Promises.{Keeps};
 pub fn keep(input: &mut [u8], used: usize, have: usize) -> usize
     ensures { Keeps used have input.old input.new result }
 {
-    let mut from = used;
-    let mut kept: usize = 0;
-    while (from < have) & (from < input.len()) {
-        input[kept] = input[from];
-        from += 1;
-        kept += 1;
-    }
-    kept
+    let end = have.min(input.len());
+    let from = used.min(end);
+    input.copy_within(from..end, 0);
+    end - from
 }

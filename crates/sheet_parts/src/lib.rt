@@ -7,13 +7,15 @@ pub mod input; // input.rt: what is left of the bytes at hand
 pub mod turns; // turns.rt: the messages at hand, and their lines
 pub mod totals; // totals.rt: the lines of an account's day
 
-// How many bytes the setup took and how many were written. With a refusal the book is all zero.
+use book::Book;
+use fields::AtFront;
+use limits::refusals::Refusal;
+
+// The book and how many bytes its setup took, or why it is refused; and how many bytes were written.
 #[derive(Clone, Copy)]
 pub struct Begun {
-    pub answer: u8,
-    pub used: usize,
+    pub opened: Result<AtFront<Book>, Refusal>,
     pub written: usize,
-    pub book: book::Book,
 }
 
 // Whether more messages may come, how many were told so far, how many bytes these ones took and how many were written, and the book after them.
@@ -23,5 +25,5 @@ pub struct Turned {
     pub seen: u64,
     pub used: usize,
     pub written: usize,
-    pub book: book::Book,
+    pub book: Book,
 }

@@ -7,11 +7,8 @@ use lib.IntN.{pos, neg_ℤ, ◌-ℤ◌, +ℤ_idl}
 use lib.Signed.{mag}
 use borrow.Author.Tests.{leb-true}
 use Rattle.words.specs.Tests.{◌≤?◌}
-use Rattle.laws.proofs.Cases.{and_left, and_right}
+use Rattle.laws.proofs.Cases.{and_right}
 use Rattle.spreadsheets.specs.Entries.{is_digit}
-
-pub digit_low : (b : ℕ) → is_digit b ≡ true → 48 ≤ b
-digit_low b e = leb-true 48 b (and_left (48 ≤? b) (b ≤? 57) e)
 
 pub digit-high : (b : ℕ) → is_digit b ≡ true → b ≤ 57
 digit-high b e = leb-true b 57 (and_right (48 ≤? b) (b ≤? 57) e)

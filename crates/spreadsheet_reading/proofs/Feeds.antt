@@ -12,6 +12,7 @@ use Rattle.words.specs.Tests.{◌=?◌}
 use Rattle.laws.proofs.Cases.{on, and-true, and-false}
 use Rattle.laws.proofs.Lists.{any_snoc, keep_snoc}
 use Rattle.spreadsheets.specs.Entries.{before, behind, is_digit, with_digit, value_from, value, decimals, kwh_of, entry_of}
+use Rattle.spreadsheet_reading.specs.declared.lines.Line.{Line}
 use Rattle.spreadsheet_reading.specs.Feeding.{decimals_with, blank_line, fed, entry_from, line_of}
 
 -- ---- one byte more at the end
@@ -78,6 +79,9 @@ first-number w b e =
     sym (ap value k ∙ value-snoc (before 0x2C w) b))
 
 -- ---- the line
+
+pub all-blank : (line : Line) → (line.second ≡ false) × ((line.pointed ≡ false) × ((line.minus ≡ false) × ((line.period ≡ 0) × ((line.size ≡ 0) × (line.decimals ≡ 0))))) → line ≡ blank_line
+all-blank line e = λ i. record { second = e.0 i; pointed = e.1.0 i; minus = e.1.1.0 i; period = e.1.1.1.0 i; size = e.1.1.1.1.0 i; decimals = e.1.1.1.1.1 i }
 
 pub line-blank : blank_line ≡ line_of []
 unfolding line_of any before behind value decimals keep

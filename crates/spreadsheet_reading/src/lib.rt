@@ -4,17 +4,25 @@
 mod table; // table.rt: the tables
 mod lines; // lines.rt: a line while its bytes come
 
-ghost use Rattle.std.specs.Prelude.{◌≡◌, ◌+◌, ◌≤◌, if◌then◌else◌};
+ghost use Rattle.std.specs.Prelude.{◌≡◌, ◌+◌, ◌≤◌, length, if◌then◌else◌};
 ghost use Rattle.words.specs.Tests.{◌=?◌};
-ghost use Rattle.spreadsheets.specs.Structs.{no_spreadsheet};
-ghost use Rattle.spreadsheet_reading.specs.Machine.{column_table, turn_table, fresh_state};
-ghost use Rattle.spreadsheet_reading.specs.Reading.{Reading};
+ghost use Rattle.spreadsheet_reading.specs.Machine.{fresh_state};
+ghost use Rattle.spreadsheet_reading.specs.Reading.{Reading, as_spreadsheet_read};
 
-use limits::numbers;
+use limits::refusals::Refusal;
+use lines::Line;
 use messages::Entry;
 use spreadsheets::Spreadsheet;
+use table::Tables;
 
-// `place` is that of the byte at which the answer was decided; the end counts as one. With a refusal the spreadsheet is all zero.
+// Why the bytes are refused, and at which of them it was decided; the end counts as one.
+#[derive(Clone, Copy)]
+pub struct Unreadable {
+    pub refusal: Refusal,
+    pub place: usize,
+}
+
+// What C is given: `place` is that of the byte at which the answer was decided; the end counts as one. With a refusal the spreadsheet is all zero.
 #[repr(C)]
 #[derive(Clone, Copy)]
 pub struct SpreadsheetRead {
@@ -23,22 +31,26 @@ pub struct SpreadsheetRead {
     pub spreadsheet: Spreadsheet,
 }
 
-const NO_ENTRY: Entry = Entry {
-    period: 0,
-    volume: 0,
-};
-
-// Refused at this place, by this number.
-fn refused(answer: u8, place: usize) -> SpreadsheetRead
-    ensures { result ≡ record { answer = answer; place = place; spreadsheet = no_spreadsheet } }
-{
-    SpreadsheetRead {
-        answer: answer,
-        place: place,
-        spreadsheet: Spreadsheet {
-            count: 0,
-            entries: [NO_ENTRY; limits::MOST_ENTRIES_WIDE],
-        },
+impl SpreadsheetRead {
+    // Of what was read of so many bytes. A valid file is decided at its end.
+    pub fn of(outcome: Result<Spreadsheet, Unreadable>, length: usize) -> SpreadsheetRead
+        ensures { result ≡ as_spreadsheet_read length outcome }
+    {
+        match outcome {
+            Ok(spreadsheet) => SpreadsheetRead {
+                answer: 0,
+                place: length,
+                spreadsheet,
+            },
+            Err(unreadable) => SpreadsheetRead {
+                answer: unreadable.refusal.into(),
+                place: unreadable.place,
+                spreadsheet: Spreadsheet {
+                    count: 0,
+                    entries: [Entry::NONE; limits::MOST_ENTRIES_WIDE],
+                },
+            },
+        }
     }
 }
 
@@ -54,23 +66,26 @@ fn begun_after(begun: u8, state: u8) -> u8
 }
 
 // Reads by the two tables, which are lent.
-fn read_by(columns: &[u8], turns: &[u8], bytes: &[u8]) -> SpreadsheetRead
-    requires { (columns.now ≡ column_table) × (turns.now ≡ turn_table) }
-    ensures { Reading bytes.now result }
+fn read_by(tables: Tables<'_>, bytes: &[u8]) -> Result<Spreadsheet, Unreadable>
+    ensures { Reading bytes.now (as_spreadsheet_read (length bytes.now) result) }
 {
-    let mut entries = [NO_ENTRY; limits::MOST_ENTRIES_WIDE];
-    let mut line = lines::blank_line();
+    let mut entries = [Entry::NONE; limits::MOST_ENTRIES_WIDE];
+    let mut line = Line::default();
     let mut state = table::START;
     let mut begun: u8 = 0;
-    let mut i: usize = 0;
-    while i < bytes.len() {
-        let byte = bytes[i];
-        let turn = table::turn_by(columns, turns, state, byte);
+    for (place, &byte) in bytes.iter().enumerate() {
+        let turn = tables.turn_by(state, byte);
         if turn < table::FIRST_STATE {
-            return refused(table::refusal_in(turn), i);
+            return Err(Unreadable {
+                refusal: table::refusal_in(turn),
+                place,
+            });
         }
         if (state == table::FRESH) & (begun == limits::MOST_ENTRIES) {
-            return refused(numbers::TOO_MANY_RECORDS, i);
+            return Err(Unreadable {
+                refusal: Refusal::TooManyRecords,
+                place,
+            });
         }
         begun = begun_after(begun, state);
         if (byte == b'\n') & (0 < begun) {
@@ -78,31 +93,33 @@ fn read_by(columns: &[u8], turns: &[u8], bytes: &[u8]) -> SpreadsheetRead
         }
         line = lines::line_after(line, byte);
         state = turn - table::FIRST_STATE;
-        i += 1;
     }
-    let turn = table::turn_at_end(turns, state);
+    let turn = tables.turn_at_end(state);
     if turn != table::FILE {
-        return refused(table::refusal_in(turn), i);
+        return Err(Unreadable {
+            refusal: table::refusal_in(turn),
+            place: bytes.len(),
+        });
     }
     if (state != table::FRESH) & (0 < begun) {
         entries[(begun - 1) as usize] = lines::entry_of(line);
     }
-    SpreadsheetRead {
-        answer: 0,
-        place: i,
-        spreadsheet: Spreadsheet {
-            count: begun,
-            entries: entries,
-        },
-    }
+    Ok(Spreadsheet {
+        count: begun,
+        entries,
+    })
 }
 
-// The entries of a spreadsheet; or the number that refuses it, at the first byte by which no valid file can begin so. The tables are laid out here, once:
-// the compiled code lays a constant array out wherever one is read.
-pub fn read_spreadsheet(bytes: &[u8]) -> SpreadsheetRead
-    ensures { Reading bytes.now result }
+// The entries of a spreadsheet; or why it is refused, at the first byte by which no valid file can begin so. The tables are laid out here, once: the
+// compiled code lays a constant array out wherever one is read.
+pub fn read_spreadsheet(bytes: &[u8]) -> Result<Spreadsheet, Unreadable>
+    ensures { Reading bytes.now (as_spreadsheet_read (length bytes.now) result) }
 {
     let columns = table::COLUMNS;
     let turns = table::TURNS;
-    read_by(&columns, &turns, bytes)
+    let tables = Tables {
+        columns: &columns,
+        turns: &turns,
+    };
+    read_by(tables, bytes)
 }

@@ -1,9 +1,10 @@
 // The reader's tables: what may follow each beginning of a file. That every place of them is right is computed (`every-turn`, `every-state`,
-// `every-column`, proofs/TableTests.antt).
+// `every-column`, proofs/TableTests.antt). States are numbers, and what comes next a letter, since those theorems are about the tables' bytes.
 ghost use Rattle.std.specs.Prelude.{◌≡◌, ◌≤◌, ◌<◌};
+ghost use Rattle.limits.specs.Refusals.{number_of};
 ghost use Rattle.spreadsheet_reading.specs.Machine.{column_table, turn_table, states, end, column_of, turn_at, refusal_in};
 
-use limits::numbers;
+use limits::refusals::Refusal;
 
 // The column of each byte, sixteen to a line:
 // a to i  the letters of the header: p e r i o d m w h
@@ -114,45 +115,56 @@ pub(crate) const FRESH: u8 = b'Z' - FIRST_STATE;
 // A file ends here.
 pub(crate) const FILE: u8 = b'.';
 
-fn column_of(columns: &[u8], byte: u8) -> usize
-    requires { columns.now ≡ column_table }
-    ensures { result ≡ column_of byte }
-{
-    let i = byte as usize;
-    (columns[i] - FIRST_COLUMN) as usize
+// Both tables, lent. They are the definition's, so whoever holds them owes nothing about them. A state stays a number: the tables' rows are counted by it, and
+// `every-turn` and `every-state` speak of those rows.
+#[derive(Clone, Copy)]
+pub(crate) struct Tables<'a> {
+    pub columns: &'a [u8],
+    pub turns: &'a [u8],
+    ghost columns_are: { columns.now ≡ column_table },
+    ghost turns_are: { turns.now ≡ turn_table },
 }
 
-fn turn_at(turns: &[u8], state: u8, column: usize) -> u8
-    requires { (turns.now ≡ turn_table) × (state < states) × (column ≤ end) }
-    ensures { result ≡ turn_at state column }
-{
-    let i = state as usize * ROW + (COLUMNS_FROM + column);
-    turns[i]
+impl Tables<'_> {
+    fn column_of(self, byte: u8) -> usize
+        ensures { result ≡ column_of byte }
+    {
+        let i = byte as usize;
+        (self.columns[i] - FIRST_COLUMN) as usize
+    }
+
+    fn turn_at(self, state: u8, column: usize) -> u8
+        requires { (state < states) × (column ≤ end) }
+        ensures { result ≡ turn_at state column }
+    {
+        let i = state as usize * ROW + (COLUMNS_FROM + column);
+        self.turns[i]
+    }
+
+    // What comes next after this byte.
+    pub(crate) fn turn_by(self, state: u8, byte: u8) -> u8
+        requires { state < states }
+        ensures { result ≡ turn_at state (column_of byte) }
+    {
+        self.turn_at(state, self.column_of(byte))
+    }
+
+    // What comes next where the bytes end.
+    pub(crate) fn turn_at_end(self, state: u8) -> u8
+        requires { state < states }
+        ensures { result ≡ turn_at state end }
+    {
+        self.turn_at(state, END)
+    }
 }
 
-// What comes next after this byte. Both tables are lent.
-pub(crate) fn turn_by(columns: &[u8], turns: &[u8], state: u8, byte: u8) -> u8
-    requires { (columns.now ≡ column_table) × (turns.now ≡ turn_table) × (state < states) }
-    ensures { result ≡ turn_at state (column_of byte) }
-{
-    turn_at(turns, state, column_of(columns, byte))
-}
-
-// What comes next where the bytes end.
-pub(crate) fn turn_at_end(turns: &[u8], state: u8) -> u8
-    requires { (turns.now ≡ turn_table) × (state < states) }
-    ensures { result ≡ turn_at state end }
-{
-    turn_at(turns, state, END)
-}
-
-// The number by which it refuses.
-pub(crate) fn refusal_in(turn: u8) -> u8
-    ensures { result ≡ refusal_in turn }
+// Why it refuses.
+pub(crate) fn refusal_in(turn: u8) -> Refusal
+    ensures { number_of result ≡ refusal_in turn }
 {
     match turn {
-        b'9' => numbers::NOT_CSV,
-        b'0' => numbers::NOT_TWO_FIELDS,
-        _ => numbers::NOT_A_NUMBER,
+        b'9' => Refusal::NotCsv,
+        b'0' => Refusal::NotTwoFields,
+        _ => Refusal::NotANumber,
     }
 }

@@ -4,6 +4,7 @@ use mathlib.Core.List.{List}
 use mathlib.Core.Path.{◌≡◌, ap, ◌∙◌}
 use Prim.Native.Nat.{ℕ, ◌≤◌}
 use native.Mathlib.Omega.{arith}
+use Rattle.std.specs.Prelude.{Result}
 use contract.Lifetimes.{Lfts}
 use denote.MutBor.{MutBor}
 use lib.ListN.{length, take}
@@ -22,24 +23,26 @@ use Rattle.spreadsheets.proofs.WritingRules.{reads-back, writing-done}
 use Rattle.spreadsheet_reading.specs.Reading.{Reading}
 use Rattle.spreadsheet_reading.specs.declared.SpreadsheetRead.{SpreadsheetRead}
 use Rattle.spreadsheet_reading.proofs.Theorems.{done-valid, valid-done, done-holds, valid-writable}
+use Rattle.limits.specs.declared.refusals.Refusal.{Refusal}
 use Rattle.spreadsheet_writing.specs.Structs.{spreadsheet_written}
-use Rattle.spreadsheet_writing.specs.declared.SpreadsheetWritten.{SpreadsheetWritten}
+use Rattle.fields.specs.Fronts.{written_as}
+use Rattle.fields.specs.declared.WrittenBytes.{WrittenBytes}
 use Rattle.spreadsheet_writing.proofs.Back.{written_back}
 use Rattle.spreadsheet_writing.proofs.write_spreadsheet.Reads as write-spreadsheet
 
 -- what was written is read, by the length that writing gave: the same entries, with zero past their count
-pub written-reads-back : (κs : Lfts 1) (x : Spreadsheet) (out left : MutBor (List ℕ)) (w : SpreadsheetWritten) → write-spreadsheet.Post κs (x, (out, tt)) w (x, (left, tt))
-    → w.answer ≡ 0 → (r : SpreadsheetRead) → Reading (take w.length left.now) r → (r.answer ≡ 0) × (r.spreadsheet ≡ spreadsheet_for (entries_in x))
+pub written-reads-back : (κs : Lfts 1) (x : Spreadsheet) (out left : MutBor (List ℕ)) (w : Result ℕ Refusal) → write-spreadsheet.Post κs (x, (out, tt)) w (x, (left, tt))
+    → (written_as w).answer ≡ 0 → (r : SpreadsheetRead) → Reading (take (written_as w).length left.now) r → (r.answer ≡ 0) × (r.spreadsheet ≡ spreadsheet_for (entries_in x))
 written-reads-back κs x out left w p e r reading =
-    let s = take w.length left.now in
+    let s = take (written_as w).length left.now in
     let back = written_back κs x out left w p e in
     let done = (valid-done s r reading back.file).0 in
     (done, done-holds s r reading done ∙ ap spreadsheet_for back.same)
 
 -- what was read is written, into 711 bytes and more, and never refused: the file as it is written of the same entries
 pub read-is-written : (s : List ℕ) → Bytes s → (r : SpreadsheetRead) → Reading s r → r.answer ≡ 0
-    → (κs : Lfts 1) (out left : MutBor (List ℕ)) (w : SpreadsheetWritten) → write-spreadsheet.Post κs (r.spreadsheet, (out, tt)) w (r.spreadsheet, (left, tt))
-    → 711 ≤ length out.now → (w.answer ≡ 0) × (take w.length left.now ≡ written (entries s))
+    → (κs : Lfts 1) (out left : MutBor (List ℕ)) (w : Result ℕ Refusal) → write-spreadsheet.Post κs (r.spreadsheet, (out, tt)) w (r.spreadsheet, (left, tt))
+    → 711 ≤ length out.now → ((written_as w).answer ≡ 0) × (take (written_as w).length left.now ≡ written (entries s))
 unfolding spreadsheet_written
 read-is-written s bytes r reading e κs out left w p room =
     let es = entries s in
@@ -49,6 +52,6 @@ read-is-written s bytes r reading e κs out left w p room =
     let held : entries_in r.spreadsheet ≡ es = ap entries_in (done-holds s r reading e) ∙ entries-held es f.1 in
     let done : write_spreadsheet (entries_in r.spreadsheet) out.now ≡ record { answer = 0; length = length (written es); out = sets out.now 0 (written es) } =
     ap (λ (l : List (Entry contracts)). write_spreadsheet l out.now) held ∙ writing-done es out.now all fits in (
-      ap (λ (x : SpreadsheetWritten). x.answer) p.0 ∙ ap (λ (x : Written). x.answer) done,
+      ap (λ (x : WrittenBytes). x.answer) p.0 ∙ ap (λ (x : Written). x.answer) done,
       (λ i. take (p.0 i).length (p.1 i)) ∙ (λ i. take (done i).length (done i).out) ∙ take-front out.now (written es) fits,
     )

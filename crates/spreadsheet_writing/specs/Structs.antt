@@ -1,6 +1,6 @@
--- What writing answers, as a struct.
+-- What writing answers, as the struct that C is given.
 use Rattle.meaning.specs.PackedMessages.{Written}
-use Rattle.spreadsheet_writing.specs.declared.SpreadsheetWritten.{SpreadsheetWritten}
+use Rattle.fields.specs.declared.WrittenBytes.{WrittenBytes}
 
-unfoldable pub spreadsheet_written : Written → SpreadsheetWritten
+unfoldable pub spreadsheet_written : Written → WrittenBytes
 spreadsheet_written w = record { answer = w.answer; length = w.length }

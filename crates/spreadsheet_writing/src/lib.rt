@@ -1,5 +1,5 @@
 // Writes what a spreadsheet holds as its file (document 02, A5): 23 for more than fifty entries or for one out of range, 24 for no room. A refusal
-// leaves the whole buffer as it was.
+// leaves the whole buffer as it was. The buffer and the place in it are two parameters, as in decimals.
 #![tactic(auto)]
 
 ghost use Rattle.std.specs.Prelude.{◌&&◌, ◌≡◌, ◌+◌, ◌≤◌, length};
@@ -9,19 +9,12 @@ ghost use Rattle.decimals.specs.Texts.{Written};
 ghost use Rattle.messages.specs.Structs.{entry_of};
 ghost use Rattle.spreadsheets.specs.Structs.{entries_in};
 ghost use Rattle.spreadsheets.specs.Writing.{size_text, mwh_text, entry_line, written, writable, write_spreadsheet};
+ghost use Rattle.fields.specs.Fronts.{written_as};
 ghost use Rattle.spreadsheet_writing.specs.Structs.{spreadsheet_written};
 
-use limits::numbers;
+use limits::refusals::Refusal;
 use messages::Entry;
 use spreadsheets::Spreadsheet;
-
-// With a refusal the length is 0.
-#[repr(C)]
-#[derive(Clone, Copy)]
-pub struct SpreadsheetWritten {
-    pub answer: u8,
-    pub length: usize,
-}
 
 // No file is longer: the header has 11 bytes, and no line of an entry more than 14.
 const MOST_BYTES: usize = 11 + 14 * limits::MOST_ENTRIES_WIDE;
@@ -31,28 +24,18 @@ const KWH_A_MWH: u64 = 1000;
 fn is_writable(e: Entry) -> bool
     ensures { result ≡ writable (entry_of e) }
 {
-    let kwh = e.volume;
-    (e.period <= limits::MOST_SPREADSHEET_PERIOD)
-        & ((limits::LEAST_KWH <= kwh) & (kwh <= limits::MOST_KWH))
+    e.period <= limits::MOST_SPREADSHEET_PERIOD
+        && (limits::LEAST_KWH..=limits::MOST_KWH).contains(&e.volume)
 }
 
 // At most 50 entries, and each is writable.
 fn all_writable(x: Spreadsheet) -> bool
     ensures { result ≡ (length (entries_in x) ≤? 50 && every writable (entries_in x)) }
 {
-    let count = x.count;
-    if limits::MOST_ENTRIES < count {
-        return false;
-    }
-    let mut k: u8 = 0;
-    while k < count {
-        let e = x.entries[k as usize];
-        if !is_writable(e) {
-            return false;
-        }
-        k += 1;
-    }
-    true
+    x.count <= limits::MOST_ENTRIES
+        && x.entries[..x.count as usize]
+            .iter()
+            .all(|e| is_writable(*e))
 }
 
 // Whole MWh, a point and "always three decimals"; the place after them.
@@ -99,36 +82,24 @@ fn put_file(out: &mut [u8], x: Spreadsheet) -> usize
     ensures { Written out.old 0 (written (entries_in x)) out.new result }
 {
     let mut at = decimals::put_word(out, 0, b"period,mwh\n");
-    let mut k: u8 = 0;
-    while k < x.count {
-        let e = x.entries[k as usize];
-        at = put_entry(out, at, e);
-        k += 1;
+    for e in &x.entries[..x.count as usize] {
+        at = put_entry(out, at, *e);
     }
     at
 }
 
-// The file at the front of the buffer. Bytes past it stay. It is made beside the buffer, since only then its length is known.
-pub fn write_spreadsheet(x: Spreadsheet, out: &mut [u8]) -> SpreadsheetWritten
-    ensures { (result ≡ spreadsheet_written (write_spreadsheet (entries_in x) out.old)) × (out.new ≡ (write_spreadsheet (entries_in x) out.old).out) }
+// The file at the front of the buffer, and its length. Bytes past it stay. It is made beside the buffer, since only then its length is known.
+pub fn write_spreadsheet(x: Spreadsheet, out: &mut [u8]) -> Result<usize, Refusal>
+    ensures { (written_as result ≡ spreadsheet_written (write_spreadsheet (entries_in x) out.old)) × (out.new ≡ (write_spreadsheet (entries_in x) out.old).out) }
 {
     if !all_writable(x) {
-        return SpreadsheetWritten {
-            answer: numbers::VALUE_DOES_NOT_FIT,
-            length: 0,
-        };
+        return Err(Refusal::ValueDoesNotFit);
     }
     let mut text = [0u8; MOST_BYTES];
     let length = put_file(&mut text, x);
     if out.len() < length {
-        return SpreadsheetWritten {
-            answer: numbers::NO_ROOM,
-            length: 0,
-        };
+        return Err(Refusal::NoRoom);
     }
-    decimals::put_word(out, 0, &text[..length]);
-    SpreadsheetWritten {
-        answer: 0,
-        length: length,
-    }
+    out[..length].copy_from_slice(&text[..length]);
+    Ok(length)
 }

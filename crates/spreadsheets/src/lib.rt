@@ -2,7 +2,7 @@
 // struct here is what a file holds, by value.
 #![tactic(auto)]
 
-// Entries past `count` are no part of it.
+// Entries past `count` are no part of it: C is given the array and the count beside it, and fills them.
 #[repr(C)]
 #[derive(Clone, Copy)]
 pub struct Spreadsheet {

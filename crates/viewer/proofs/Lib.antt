@@ -1,5 +1,4 @@
 -- Laws that the functions' proofs share, that the promises leave no choice, and that the answers are one position, which follows from the history.
-pub mod Answers
 pub mod OutOfBook
 pub mod Narrowed
 pub mod NarrowedTotals
@@ -11,3 +10,4 @@ pub mod Unique
 pub mod OnePosition
 pub mod PositionFromHistory
 pub mod CheckedPosition
+pub mod MarkTells

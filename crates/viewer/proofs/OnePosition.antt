@@ -15,8 +15,7 @@ use Rattle.book.specs.Structs.{book_of}
 use Rattle.position.specs.Totals.{totalled}
 use Rattle.position.specs.declared.Totalled.{Totalled}
 use Rattle.bar.specs.Figures.{bar_for}
-use Rattle.marks.specs.Marks.{marked}
-use Rattle.marks.specs.declared.Marked.{Marked}
+use Rattle.marks.specs.Marks.{Marked, marked}
 
 module _ (b : Book) (held : List ℕ) (side1 side2 : List ℤ) (account D period : ℕ) where
   abbrev whole : Meaning.Book contracts

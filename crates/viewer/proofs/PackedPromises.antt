@@ -12,11 +12,10 @@ use Rattle.messages.specs.declared.Message.{Message}
 use Rattle.message_reading.specs.Structs.{message_read}
 use Rattle.message_reading.specs.declared.MessageRead.{MessageRead}
 use Rattle.message_writing.specs.Structs.{message_written}
-use Rattle.message_writing.specs.declared.MessageWritten.{MessageWritten}
+use Rattle.fields.specs.declared.WrittenBytes.{WrittenBytes}
 use Rattle.setups.specs.Structs.{setup_of}
 use Rattle.setups.specs.declared.Setup.{Setup}
 use Rattle.setup_writing.specs.Structs.{setup_written}
-use Rattle.setup_writing.specs.declared.SetupWritten.{SetupWritten}
 use Rattle.message_fields.specs.Questions.{field_in}
 
 abbrev pub MessageRefusal : List ℕ → ℕ → Type 0
@@ -31,8 +30,8 @@ MessageField bytes field r = r ≡ field_in (read_message bytes).read field
 abbrev pub ReadsMessage : List ℕ → MessageRead → Type 0
 ReadsMessage bytes r = r ≡ message_read (read_message bytes)
 
-abbrev pub WritesMessage : Message → List ℕ → MessageWritten → List ℕ → Type 0
+abbrev pub WritesMessage : Message → List ℕ → WrittenBytes → List ℕ → Type 0
 WritesMessage m out r left = (r ≡ message_written (write_message (message_of m) out)) × (left ≡ (write_message (message_of m) out).out)
 
-abbrev pub WritesSetup : Setup → List ℕ → SetupWritten → List ℕ → Type 0
+abbrev pub WritesSetup : Setup → List ℕ → WrittenBytes → List ℕ → Type 0
 WritesSetup s out r left = (r ≡ setup_written (write_setup (setup_of s) out)) × (left ≡ (write_setup (setup_of s) out).out)

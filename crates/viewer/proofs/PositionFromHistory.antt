@@ -47,8 +47,7 @@ use Rattle.position.specs.declared.Totalled.{Totalled}
 use Rattle.position.proofs.TotalTheorems.{day-total-is-total}
 use Rattle.position.proofs.Promises.{DayTotalled}
 use Rattle.bar.specs.Figures.{bar_for}
-use Rattle.marks.specs.Marks.{marked}
-use Rattle.marks.specs.declared.Marked.{Marked}
+use Rattle.marks.specs.Marks.{Marked, marked}
 
 -- What is known of a book and its lent tables when the calls on a book opened with this setup and so many slots have led to them.
 pub record FollowsHistory (t : State) (setup : Meaning.Setup) (slots : ℕ) (calls : List (Call contracts)) : Type 0 where

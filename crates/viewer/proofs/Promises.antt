@@ -22,14 +22,12 @@ use Rattle.position.specs.declared.Totalled.{Totalled}
 use Rattle.position.specs.declared.Figured.{Figured}
 use Rattle.position.proofs.Promises.{DayTotalled}
 use Rattle.bar.specs.Figures.{case_of, first_of, second_of}
-use Rattle.marks.specs.Marks.{marked, day_mark_rules, day_marked}
-use Rattle.marks.specs.declared.Marked.{Marked}
+use Rattle.marks.specs.Marks.{Marked, marked, day_mark_rules, day_marked}
 use Rattle.marks.specs.declared.RowPlace.{RowPlace}
 use Rattle.marks.proofs.PlaceLaws.{the_place, Placed, placed}
 use Rattle.viewer.specs.Asked.{named}
 use Rattle.viewer.specs.Numbers.{mark_numbers}
 use Rattle.viewer.specs.declared.MarkNumbers.{MarkNumbers}
-use Rattle.viewer.proofs.Answers.{numbers_of}
 use Rattle.viewer.proofs.NarrowedTotals.{total-narrowed, day-totals-narrowed, figures-narrowed}
 use Rattle.viewer.proofs.NarrowedMarks.{mark-narrowed, day-marks-narrowed, row-narrowed}
 use Rattle.viewer.proofs.NarrowedNullification.{nullified-narrowed}
@@ -98,11 +96,10 @@ module _ (b : Book) (held : List ℕ) (side1 side2 : List ℤ) where
     -- ---- one mark, as its numbers
 
     pub mark-kept : (account day period : ℕ) {a d p : ℕ} → a ≡ min account 255 → d ≡ min day 65535 → p ≡ min period 255
-        → (m : Marked) {number : ℕ} {first second : Float} → m ≡ marked before (identifier_of o n) a d p
-        → number ≡ case_of m.bar → first ≡ first_of m.bar → second ≡ second_of m.bar
-        → MarkShown (named originator reference) account day period (record { answer = m.answer; bar = number; first = first; second = second })
-    mark-kept account day period ea ed ep m e =
-        numbers_of m (marked before (named originator reference) account day period) (e ∙ mark-narrowed before originator reference eo en account day period ea ed ep)
+        → (m : Marked) (r : MarkNumbers) → r ≡ mark_numbers m → m ≡ marked before (identifier_of o n) a d p
+        → MarkShown (named originator reference) account day period r
+    mark-kept account day period ea ed ep m r f e =
+        f ∙ ap mark_numbers (e ∙ mark-narrowed before originator reference eo en account day period ea ed ep)
 
     -- ---- why a row is refused, and where it lies
 

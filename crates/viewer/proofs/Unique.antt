@@ -8,9 +8,8 @@ use lib.IntN.{ℤ}
 use Rattle.laws.proofs.Cases.{one-outcome}
 use Rattle.messages.specs.declared.Message.{Message}
 use Rattle.message_reading.specs.declared.MessageRead.{MessageRead}
-use Rattle.message_writing.specs.declared.MessageWritten.{MessageWritten}
+use Rattle.fields.specs.declared.WrittenBytes.{WrittenBytes}
 use Rattle.setups.specs.declared.Setup.{Setup}
-use Rattle.setup_writing.specs.declared.SetupWritten.{SetupWritten}
 use Rattle.book.specs.declared.Book.{Book}
 use Rattle.position.specs.declared.Totalled.{Totalled}
 use Rattle.position.specs.declared.Figured.{Figured}
@@ -38,11 +37,11 @@ unique-message-field bytes field r r' = one-outcome
 pub unique-read-message : (bytes : List ℕ) (r r' : MessageRead) → ReadsMessage bytes r → ReadsMessage bytes r' → r ≡ r'
 unique-read-message bytes r r' = one-outcome
 
-pub unique-write-message : (m : Message) (out : List ℕ) (r r' : MessageWritten) (left left' : List ℕ)
+pub unique-write-message : (m : Message) (out : List ℕ) (r r' : WrittenBytes) (left left' : List ℕ)
     → WritesMessage m out r left → WritesMessage m out r' left' → (r ≡ r') × (left ≡ left')
 unique-write-message m out r r' left left' p q = (one-outcome p.0 q.0, one-outcome p.1 q.1)
 
-pub unique-write-setup : (s : Setup) (out : List ℕ) (r r' : SetupWritten) (left left' : List ℕ)
+pub unique-write-setup : (s : Setup) (out : List ℕ) (r r' : WrittenBytes) (left left' : List ℕ)
     → WritesSetup s out r left → WritesSetup s out r' left' → (r ≡ r') × (left ≡ left')
 unique-write-setup s out r r' left left' p q = (one-outcome p.0 q.0, one-outcome p.1 q.1)
 

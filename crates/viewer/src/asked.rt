@@ -1,7 +1,23 @@
-// The numbers that a question in C names, narrowed for the functions that answer it. C would cut them without a word, so that account 257 were
-// account 1: the exports take 32 bits, and a number that is out of every book stays out of every book.
+// What a question in C names: the book that it is about, and numbers, narrowed for the functions that answer it. C would cut them without a word, so
+// that account 257 were account 1: the exports take 32 bits, and a number that is out of every book stays out of every book.
 ghost use Rattle.std.specs.Prelude.{◌≡◌, min, if◌then◌else◌};
 ghost use Rattle.words.specs.Tests.{◌<?◌};
+ghost use Rattle.book.specs.Structs.{book_of, book_seen};
+
+use book::{Book, BookView};
+
+// A book beside its lent tables.
+pub(crate) fn seen<'a>(b: Book, held: &'a [u32], side1: &'a [i32], side2: &'a [i32]) -> BookView<'a>
+    ensures book { result.book ≡ b }
+    ensures seen { book_seen result ≡ book_of b held.now side1.now side2.now }
+{
+    BookView {
+        book: b,
+        held,
+        side1,
+        side2,
+    }
+}
 
 // No book knows it: authorisations are numbered from 0 to 63.
 const NO_ORIGINATOR: u8 = 255;
@@ -10,20 +26,14 @@ const NO_ORIGINATOR: u8 = 255;
 pub(crate) fn at_most_255(number: u32) -> u8
     ensures { result ≡ min number 255 }
 {
-    if 255 < number {
-        return 255;
-    }
-    number as u8
+    u8::try_from(number).unwrap_or(u8::MAX)
 }
 
 // A day, whose numbers end at 65,534; or a reference, whose last is 65,535: there `originator_named` keeps what is above it apart.
 pub(crate) fn at_most_65535(number: u32) -> u16
     ensures { result ≡ min number 65535 }
 {
-    if 65535 < number {
-        return 65535;
-    }
-    number as u16
+    u16::try_from(number).unwrap_or(u16::MAX)
 }
 
 // The originator of an identifier; none where the reference is none, so that the identifier is of no book.

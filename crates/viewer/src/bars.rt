@@ -30,16 +30,8 @@ pub extern "C" fn ghendufika_mark(
     let account = asked::at_most_255(account);
     let day = asked::at_most_65535(day);
     let period = asked::at_most_255(period);
-    let m = marks::periods::mark(
-        b, held, side1, side2, originator, reference, account, day, period,
-    );
-    let bar = m.bar;
-    MarkNumbers {
-        answer: m.answer,
-        bar: bar::case_of(bar),
-        first: bar::first_of(bar),
-        second: bar::second_of(bar),
-    }
+    let view = asked::seen(b, held, side1, side2);
+    marks::periods::mark(view, originator, reference, account, day, period).into()
 }
 
 #[unsafe(no_mangle)]
@@ -61,5 +53,6 @@ pub extern "C" fn ghendufika_row(
     let reference = asked::at_most_65535(reference);
     let day = asked::at_most_65535(day);
     let side = asked::at_most_255(side);
-    marks::rows::row_place(b, held, side1, side2, originator, reference, day, side)
+    let view = asked::seen(b, held, side1, side2);
+    marks::rows::row_place(view, originator, reference, day, side).into()
 }

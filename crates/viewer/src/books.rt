@@ -1,5 +1,6 @@
 // A book from C: a packed setup, opening, packed messages, and what the book shows. Each export takes its arguments apart, narrows the numbers that a
-// caller may get wrong, and calls; the promise is that of the function it calls, at the caller's own numbers. include/ghendufika.h declares them.
+// caller may get wrong, calls, and gives C the struct or the number of the outcome; the promise is that of the function it calls, at the caller's own
+// numbers. include/ghendufika.h declares them.
 ghost use Rattle.std.specs.Prelude.{◌≡◌, min, length};
 ghost use Rattle.std.proofs.lemmas.List.Edits.{sets};
 ghost use Rattle.words.specs.Rules.{answer};
@@ -24,6 +25,7 @@ ghost use Rattle.viewer.specs.Asked.{named};
 
 use crate::asked;
 use book::Book;
+use limits::refusals::answer_of;
 
 #[unsafe(no_mangle)]
 pub extern "C" fn ghendufika_read_setup(
@@ -34,7 +36,7 @@ pub extern "C" fn ghendufika_read_setup(
 ) -> setup_reading::SetupRead
     ensures { result ≡ setup_read (read_setup bytes.now slots lent1 lent2) }
 {
-    setup_reading::read_setup(bytes, slots, lent1, lent2)
+    setup_reading::read_setup(bytes, slots, lent1, lent2).into()
 }
 
 #[unsafe(no_mangle)]
@@ -47,14 +49,14 @@ pub extern "C" fn ghendufika_open(
     ensures { let a = answer (opening_rules (setup_of s) (length held.old) (length side1.old) (length side2.old)) in
         (result ≡ opened s a) × (held.new ≡ held_opened a held.old) × (side1.new ≡ side_opened a side1.old) × (side2.new ≡ side_opened a side2.old) }
 {
-    book::opening::open(s, held, side1, side2)
+    book::opening::open(s, held, side1, side2).into()
 }
 
 #[unsafe(no_mangle)]
 pub extern "C" fn ghendufika_is_sound(b: Book, held: &[u32], side1: &[i32], side2: &[i32]) -> bool
     ensures { result ≡ sound (book_of b held.now side1.now side2.now) }
 {
-    book::soundness::is_sound(b, held, side1, side2)
+    asked::seen(b, held, side1, side2).is_sound()
 }
 
 #[unsafe(no_mangle)]
@@ -66,7 +68,8 @@ pub extern "C" fn ghendufika_close_gate(
 ) -> calls::Gated
     ensures { result ≡ gated b (answer (gate_rules (book_of b held.now side1.now side2.now))) }
 {
-    calls::gates::close_gate(b, held, side1, side2)
+    let view = asked::seen(b, held, side1, side2);
+    calls::Gated::of(b, calls::gates::close_gate(view))
 }
 
 #[unsafe(no_mangle)]
@@ -81,7 +84,7 @@ pub extern "C" fn ghendufika_notify(
         let call = message (notification (notification_of n)) in
         (result ≡ notified_of (notified before (notification_of n))) × (held.new ≡ (after_call before call).ledger.held) × (side1.new ≡ (after_call before call).ledger.side1) × (side2.new ≡ (after_call before call).ledger.side2) }
 {
-    calls::notifications::notify(b, n, held, side1, side2)
+    calls::notifications::notify(b, n, held, side1, side2).into()
 }
 
 #[unsafe(no_mangle)]
@@ -103,7 +106,7 @@ pub extern "C" fn ghendufika_nullify(
         other: asked::at_most_255(other),
         first: asked::at_most_65535(first),
     };
-    calls::nullifications::nullify(b, x, held, side1, side2)
+    answer_of(calls::nullifications::nullify(b, x, held, side1, side2))
 }
 
 #[unsafe(no_mangle)]
@@ -117,7 +120,8 @@ pub extern "C" fn ghendufika_apply(
     ensures { let whole = applied (book_of b held.old side1.old side2.old) bytes.now in
         (result ≡ applied_of b whole) × (held.new ≡ whole.book.ledger.held) × (side1.new ≡ whole.book.ledger.side1) × (side2.new ≡ whole.book.ledger.side2) }
 {
-    calls::packed::apply(b, bytes, held, side1, side2)
+    let outcome = calls::packed::apply(b, bytes, held, side1, side2);
+    calls::Applied::of(b, outcome)
 }
 
 #[unsafe(no_mangle)]
@@ -134,7 +138,8 @@ pub extern "C" fn ghendufika_apply_all(
         let whole = run_on (min (length answers.old) (length places.old)) before bytes.now in
         (result ≡ ran_of b (run_answer before) whole) × (held.new ≡ whole.book.ledger.held) × (side1.new ≡ whole.book.ledger.side1) × (side2.new ≡ whole.book.ledger.side2) × (answers.new ≡ sets answers.old 0 (answers_in whole.outcomes)) × (places.new ≡ sets places.old 0 (places_in whole.outcomes)) }
 {
-    calls::packed::apply_all(b, bytes, held, side1, side2, answers, places)
+    let outcome = calls::packed::apply_all(b, bytes, held, side1, side2, answers, places);
+    calls::AppliedAll::of(b, outcome)
 }
 
 #[unsafe(no_mangle)]
@@ -152,7 +157,8 @@ pub extern "C" fn ghendufika_total(
     let account = asked::at_most_255(account);
     let day = asked::at_most_65535(day);
     let period = asked::at_most_255(period);
-    position::totals::total(b, held, side1, side2, account, day, period)
+    let view = asked::seen(b, held, side1, side2);
+    position::totals::total(view, account, day, period).into()
 }
 
 #[unsafe(no_mangle)]
@@ -170,7 +176,8 @@ pub extern "C" fn ghendufika_day_totals(
 {
     let account = asked::at_most_255(account);
     let day = asked::at_most_65535(day);
-    position::totals::day_totals(b, held, side1, side2, account, day, out)
+    let view = asked::seen(b, held, side1, side2);
+    answer_of(position::totals::day_totals(view, account, day, out))
 }
 
 #[unsafe(no_mangle)]
@@ -186,7 +193,8 @@ pub extern "C" fn ghendufika_figures(
 {
     let account = asked::at_most_255(account);
     let day = asked::at_most_65535(day);
-    position::day_figures::figures(b, held, side1, side2, account, day)
+    let view = asked::seen(b, held, side1, side2);
+    position::day_figures::figures(view, account, day).into()
 }
 
 #[unsafe(no_mangle)]
@@ -206,7 +214,8 @@ pub extern "C" fn ghendufika_row_refusal(
     let reference = asked::at_most_65535(reference);
     let day = asked::at_most_65535(day);
     let side = asked::at_most_255(side);
-    marks::rows::row_refusal(b, held, side1, side2, originator, reference, day, side)
+    let view = asked::seen(b, held, side1, side2);
+    answer_of(marks::rows::row_refusal(view, originator, reference, day, side))
 }
 
 #[unsafe(no_mangle)]
@@ -232,7 +241,8 @@ pub extern "C" fn ghendufika_day_marks(
     let reference = asked::at_most_65535(reference);
     let account = asked::at_most_255(account);
     let day = asked::at_most_65535(day);
-    marks::periods::day_marks(
-        b, held, side1, side2, originator, reference, account, day, cases, firsts, seconds,
-    )
+    let view = asked::seen(b, held, side1, side2);
+    answer_of(marks::periods::day_marks(
+        view, originator, reference, account, day, cases, firsts, seconds,
+    ))
 }

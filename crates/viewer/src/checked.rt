@@ -15,7 +15,7 @@ pub extern "C" fn ghendufika_read_setup_checked(
 ) -> setup_reading::SetupRead
     ensures { result ≡ setup_read (read_checked_setup bytes.now slots lent1 lent2) }
 {
-    checked_setups::reading::read_setup_checked(bytes, slots, lent1, lent2)
+    checked_setups::reading::read_setup_checked(bytes, slots, lent1, lent2).into()
 }
 
 #[unsafe(no_mangle)]
@@ -28,7 +28,7 @@ pub extern "C" fn ghendufika_open_checked(
     ensures { let a = answer (checked_opening_rules (setup_of s) (length held.old) (length side1.old) (length side2.old)) in
         (result ≡ opened s a) × (held.new ≡ held_opened a held.old) × (side1.new ≡ side_opened a side1.old) × (side2.new ≡ side_opened a side2.old) }
 {
-    checked_setups::opening::open_checked(s, held, side1, side2)
+    checked_setups::opening::open_checked(s, held, side1, side2).into()
 }
 
 #[unsafe(no_mangle)]
@@ -41,5 +41,5 @@ pub extern "C" fn ghendufika_open_packed_checked(
     ensures { let read = read_checked_setup bytes.now (length held.old) (length side1.old) (length side2.old) in
         (result ≡ opened_packed read) × (held.new ≡ held_opened read.answer held.old) × (side1.new ≡ side_opened read.answer side1.old) × (side2.new ≡ side_opened read.answer side2.old) }
 {
-    checked_setups::reading::open_packed_checked(bytes, held, side1, side2)
+    checked_setups::reading::open_packed_checked(bytes, held, side1, side2).into()
 }

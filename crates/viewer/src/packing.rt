@@ -1,5 +1,5 @@
-// Packed bytes from C: a message by value out of bytes and into them, a setup into bytes, and a book opened from them. What a function gives on a
-// refusal is what the function that it calls gives.
+// Packed bytes from C: a message by value out of bytes and into them, a setup into bytes, and a book opened from them. On a refusal a
+// function gives what its struct has for one.
 ghost use Rattle.std.specs.Prelude.{◌≡◌, length};
 ghost use Rattle.meaning.specs.PackedMessages.{read_message, write_message};
 ghost use Rattle.meaning.specs.PackedSetups.{read_setup, write_setup};
@@ -14,27 +14,24 @@ ghost use Rattle.book.specs.Answers.{opened_packed, held_opened, side_opened};
 pub extern "C" fn ghendufika_read_message(bytes: &[u8]) -> message_reading::MessageRead
     ensures { result ≡ message_read (read_message bytes.now) }
 {
-    message_reading::read_message(bytes)
+    message_reading::read_message(bytes).into()
 }
 
 #[unsafe(no_mangle)]
 pub extern "C" fn ghendufika_write_message(
     m: messages::Message,
     out: &mut [u8],
-) -> message_writing::MessageWritten
+) -> fields::WrittenBytes
     ensures { (result ≡ message_written (write_message (message_of m) out.old)) × (out.new ≡ (write_message (message_of m) out.old).out) }
 {
-    message_writing::write_message(m, out)
+    message_writing::write_message(m, out).into()
 }
 
 #[unsafe(no_mangle)]
-pub extern "C" fn ghendufika_write_setup(
-    s: setups::Setup,
-    out: &mut [u8],
-) -> setup_writing::SetupWritten
+pub extern "C" fn ghendufika_write_setup(s: setups::Setup, out: &mut [u8]) -> fields::WrittenBytes
     ensures { (result ≡ setup_written (write_setup (setup_of s) out.old)) × (out.new ≡ (write_setup (setup_of s) out.old).out) }
 {
-    setup_writing::write_setup(s, out)
+    setup_writing::write_setup(s, out).into()
 }
 
 #[unsafe(no_mangle)]
@@ -47,5 +44,5 @@ pub extern "C" fn ghendufika_open_packed(
     ensures { let read = read_setup bytes.now (length held.old) (length side1.old) (length side2.old) in
         (result ≡ opened_packed read) × (held.new ≡ held_opened read.answer held.old) × (side1.new ≡ side_opened read.answer side1.old) × (side2.new ≡ side_opened read.answer side2.old) }
 {
-    book::opening::open_packed(bytes, held, side1, side2)
+    book::opening::open_packed(bytes, held, side1, side2).into()
 }

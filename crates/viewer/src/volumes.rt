@@ -1,4 +1,4 @@
-// Volumes from a spreadsheet, and into one (document 02, A5), from C. What a function gives on a refusal is what the function that it calls gives.
+// Volumes from a spreadsheet, and into one (document 02, A5), from C. On a refusal a function gives what its struct has for one.
 ghost use Rattle.std.specs.Prelude.{◌≡◌};
 ghost use Rattle.spreadsheets.specs.Structs.{entries_in};
 ghost use Rattle.spreadsheets.specs.Writing.{write_spreadsheet};
@@ -9,15 +9,16 @@ ghost use Rattle.spreadsheet_writing.specs.Structs.{spreadsheet_written};
 pub extern "C" fn ghendufika_read_spreadsheet(bytes: &[u8]) -> spreadsheet_reading::SpreadsheetRead
     ensures { Reading bytes.now result }
 {
-    spreadsheet_reading::read_spreadsheet(bytes)
+    let outcome = spreadsheet_reading::read_spreadsheet(bytes);
+    spreadsheet_reading::SpreadsheetRead::of(outcome, bytes.len())
 }
 
 #[unsafe(no_mangle)]
 pub extern "C" fn ghendufika_write_spreadsheet(
     x: spreadsheets::Spreadsheet,
     out: &mut [u8],
-) -> spreadsheet_writing::SpreadsheetWritten
+) -> fields::WrittenBytes
     ensures { (result ≡ spreadsheet_written (write_spreadsheet (entries_in x) out.old)) × (out.new ≡ (write_spreadsheet (entries_in x) out.old).out) }
 {
-    spreadsheet_writing::write_spreadsheet(x, out)
+    spreadsheet_writing::write_spreadsheet(x, out).into()
 }

@@ -21,30 +21,28 @@ current-is c d h none hit =
     rw length-build (ap (λ (n : ℕ). c.first + n) (sym (first-is c.days (open-day c) d h none hit)))
 
 pub loop-d-init : goal.loop-d-init
-loop-d-init c = (omega arith, λ k h. absurd (omega arith))
+loop-d-init c = λ k h. absurd (omega arith)
 
 pub returns-then-c-gates : goal.returns-then-c-gates
 returns-then-c-gates c =
     let book = c.args.c in
     let l = c.loop-d in
     let gates = c.gates_before-gates in
-    current-is book l.d l.invariant.0 l.invariant.1
+    current-is book l.d (omega arith) l.invariant
     (λ h. lt-ltb book.closed (gates_before (time_of book).codes (suc l.d)) (omega (arith, gates.ensures, ap (gates_before (time_of book).codes) (add-one l.d), c.if-c-gates.true)))
 
 pub loop-d-preserved : goal.loop-d-preserved
 loop-d-preserved c =
     let book = c.args.c in
     let l = c.loop-d in
-    let gates = c.gates_before-gates in (
-      omega arith,
-      λ k h. by-eq k l.d
-          (λ e. rw e (le-ltb book.closed (gates_before (time_of book).codes (suc l.d)) (omega (arith, gates.ensures, ap (gates_before (time_of book).codes) (add-one l.d), c.if-c-gates.false))))
-          (λ n. l.invariant.1 k (omega arith)),
-    )
+    let gates = c.gates_before-gates in
+    λ k h. by-eq k l.d
+    (λ e. rw e (le-ltb book.closed (gates_before (time_of book).codes (suc l.d)) (omega (arith, gates.ensures, ap (gates_before (time_of book).codes) (add-one l.d), c.if-c-gates.false))))
+    (λ n. l.invariant k (omega arith))
 
 pub returns : goal.returns
 returns c =
     let book = c.args.c in
     let l = c.loop-d in
     let e : l.d ≡ book.days = omega (arith, c.loop-d-test.false) in
-    ap (λ (n : ℕ). book.first + n) (sym e) ∙ current-is book l.d l.invariant.0 l.invariant.1 (λ h. absurd (omega arith))
+    ap (λ (n : ℕ). book.first + n) (sym e) ∙ current-is book l.d (omega arith) l.invariant (λ h. absurd (omega arith))

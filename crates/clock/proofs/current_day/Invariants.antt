@@ -1,7 +1,7 @@
 -- Every day before d has its gates closed; the search stops at the first that has not.
 use mathlib.Core.Bool.{Bool, false}
 use mathlib.Core.Path.{◌≡◌}
-use Prim.Native.Nat.{ℕ, suc, ◌-◌, ◌≤◌, ◌<◌}
+use Prim.Native.Nat.{ℕ, suc, ◌<◌}
 use lib.Dec.{ltb}
 use Rattle.meaning.specs.Time.{gates_before}
 use Rattle.clock.specs.declared.Clock.{Clock}
@@ -13,7 +13,4 @@ abbrev pub open-day : Clock → ℕ → Bool
 open-day c k = ltb c.closed (gates_before (time_of c).codes (suc k))
 
 abbrev pub invariant-loop-d : goal.invariant-loop-d
-invariant-loop-d l = (l.d ≤ l.c.days) × ((k : ℕ) → k < l.d → open-day l.c k ≡ false)
-
-abbrev pub decreases-loop-d : goal.decreases-loop-d
-decreases-loop-d l = l.c.days - l.d
+invariant-loop-d l = (k : ℕ) → k < l.d → open-day l.c k ≡ false

@@ -10,7 +10,7 @@ use Rattle.clock.proofs.gates_before.Goals as goal
 
 pub loop-k-init : goal.loop-k-init
 unfolding gates_before sum_below
-loop-k-init c = (omega arith, refl, omega arith)
+loop-k-init c = (refl, omega arith)
 
 pub overflow_add-gates : goal.overflow_add-gates
 overflow_add-gates c =
@@ -22,7 +22,6 @@ unfolding gates_before
 loop-k-preserved c =
     let codes = (time_of c.args.c).codes in
     let l = c.loop-k in (
-      omega arith,
       cc (sum_more l.k (periods_at codes)),
       omega (arith, c.periods_at.ensures, periods-le codes l.k),
     )
@@ -31,4 +30,4 @@ pub returns : goal.returns
 returns c =
     let l = c.loop-k in
     let e : l.k ≡ c.args.d = omega arith in
-    l.invariant.1 ∙ rw e
+    l.invariant.0 ∙ rw e

@@ -1,5 +1,6 @@
 -- Each arm is a code.
-use borrow.Author.Tests.{ne_eqb}
+use native.Mathlib.Omega.{arith}
+use Rattle.std.proofs.lemmas.Bool.Decides.{nat_tests}
 use Rattle.meaning.specs.Time.{periods_of_code}
 use Rattle.clock.proofs.periods_of.Goals as goal
 
@@ -17,6 +18,4 @@ returns-in-2 c = rw c.in-2.is
 
 pub returns-in_default : goal.returns-in_default
 unfolding periods_of_code
-returns-in_default c =
-    let code = c.args.code in
-    rw (ne_eqb code 0 c.in_default.in_default-own.rest.0.0.1, ne_eqb code 1 c.in_default.in_default-own.rest.0.1, ne_eqb code 2 c.in_default.in_default-own.rest.1)
+returns-in_default c = grind (arith, nat_tests)

@@ -1,22 +1,20 @@
 -- The machine subtracts first, since the sum of the definition may not fit.
-use borrow.Author.Tests.{le-leb, lt-leb}
-use mathlib.Core.Path.{sym, ◌∙◌}
-use Prim.Native.Nat.{◌+◌, ◌-◌}
-use native.Mathlib.Omega.{arith}
+use Rattle.std.proofs.Common.{◌+◌, ◌-◌, arith, ◌∙◌, sym, le-leb}
+use borrow.Author.Tests.{lt-leb}
 use Rattle.laws.proofs.Cases.{by-lt}
 use Rattle.decimals.specs.Texts.{has_room}
 use Rattle.decimals.proofs.has_room.Goals as goal
 
-pub returns-then-size-at : goal.returns-then-size-at
+pub returns-then-at-size : goal.returns-then-at-size
 unfolding has_room
-returns-then-size-at c =
-    let a = c.args in
-    simp (lt-leb (a.at + a.bytes) a.size (omega arith))
-
-pub returns : goal.returns
-unfolding has_room
-returns c =
+returns-then-at-size c =
     let a = c.args in
     by-lt a.size (a.at + a.bytes)
     (λ h. lt-leb a.bytes (a.size - a.at) (omega arith) ∙ sym (lt-leb (a.at + a.bytes) a.size h))
     (λ h. le-leb a.bytes (a.size - a.at) (omega arith) ∙ sym (le-leb (a.at + a.bytes) a.size h))
+
+pub returns-else-at-size : goal.returns-else-at-size
+unfolding has_room
+returns-else-at-size c =
+    let a = c.args in
+    lt-leb a.at a.size (omega arith) ∙ sym (lt-leb (a.at + a.bytes) a.size (omega arith))

@@ -1,70 +1,43 @@
--- Where there is room, what is left of the number, stored before the digits already there, makes the whole of it.
-use mathlib.Core.Path.{◌≡◌, refl, sym, ap, ◌∙◌}
-use Prim.Native.Nat.{ℕ, ◌+◌, ◌/◌, ◌≤◌}
-use native.Mathlib.Omega.{arith}
-use lib.ListN.{length, length-set}
+-- The digits that are left, stored before those already there, make the whole of the number.
+use Rattle.std.proofs.Common.{◌≡◌, ◌+◌, ◌-◌, ◌≤◌, length, sym, ap, ◌∙◌, arith}
+use lib.Seq.{sets}
 use Rattle.meaning.specs.Decimals.{decimal}
-use Rattle.meaning.proofs.Decimals.{count_low, count-high, count-some, store-last, store-only}
-use Rattle.decimals.specs.Texts.{has_room}
-use Rattle.decimals.proofs.Texts.{is-room, room-free, put-without, put-with}
+use Rattle.decimals.proofs.Digits.{last_digits, last-all, last-stored}
+use Rattle.decimals.proofs.Texts.{is-room, room-free, put-with}
 use Rattle.decimals.proofs.put_decimal.Goals as goal
-use Rattle.decimals.proofs.put_decimal.Goals.{After-has_room, Else-not-has_room}
+use Rattle.decimals.proofs.put_decimal.Goals.{Else-not-has_room}
 
--- the test is made with the digits counted
-tested : (c : After-has_room) → let a = c.args in c.has_room.result ≡ has_room (length a.out.now) a.at (length (decimal a.number))
-tested c =
-    let a = c.args in
-    c.has_room.ensures ∙ ap (has_room (length a.out.now) a.at) c.digit_count-count.ensures
-
-free : (c : Else-not-has_room) → let a = c.args in a.at + length (decimal a.number) ≤ length a.out.now
-free c =
-    let a = c.args in
-    room-free (length a.out.now) a.at (length (decimal a.number)) (sym (tested (goal.at.Else-not-has_room c).After-has_room) ∙ c.if-not-has_room.false)
-
-pub returns-then-not-has_room : goal.returns-then-not-has_room
-returns-then-not-has_room c = put-without (sym (tested (goal.at.returns-then-not-has_room c).After-has_room) ∙ c.if-not-has_room.true) refl refl
+free : (c : Else-not-has_room) → let a = c.args in a.at + c.digit_count-count.result ≤ length a.out.now
+free c = let a = c.args in room-free (length a.out.now) a.at c.digit_count-count.result (sym c.has_room.ensures ∙ c.if-not-has_room.false)
 
 pub overflow_add-after : goal.overflow_add-after
-overflow_add-after c = omega (arith, free (goal.at.overflow_add-after c).Else-not-has_room)
+overflow_add-after c = omega (arith, free c)
 
-pub overflow_sub-place : goal.overflow_sub-place
-overflow_sub-place c = omega (arith, count-some c.args.number)
-
-pub loop-rest-init : goal.loop-rest-init
-loop-rest-init c =
+pub loop-place-init : goal.loop-place-init
+loop-place-init c =
     let a = c.args in
-    let counted = c.digit_count-count.ensures in
-    (free (goal.at.loop-rest-init c).Else-not-has_room, ap (λ (n : ℕ). a.at + n) counted, omega (arith, count-some a.number), omega arith, refl, refl)
+    let count = c.digit_count-count.result in
+    let e : a.at + count - a.at ≡ count = omega arith in
+    record {
+      inside = free c;
+      digits = ap (sets a.out.now a.at) (ap (λ k. last_digits k a.number) e ∙ last-all count a.number (sym c.digit_count-count.ensures));
+    }
 
-pub bounds-out-place : goal.bounds-out-place
-bounds-out-place c = omega arith
-
-pub overflow_sub-place-in-loop-rest : goal.overflow_sub-place-in-loop-rest
-overflow_sub-place-in-loop-rest c = omega (arith, count-high c.loop-rest.rest (omega arith), count-some (c.loop-rest.rest / 10))
-
-pub loop-rest-preserved : goal.loop-rest-preserved
-loop-rest-preserved c =
+pub loop-place-preserved : goal.loop-place-preserved
+loop-place-preserved c =
     let a = c.args in
-    let l = c.loop-rest in
-    let e : l.place ≡ a.at + length (decimal (l.rest / 10)) = omega (arith, count-high l.rest (omega arith)) in (
-      l.invariant.0,
-      l.invariant.1,
-      omega (arith, count-high l.rest (omega arith), count-some (l.rest / 10)),
-      omega (arith, count-high l.rest (omega arith)),
-      rw (e, c.last_digit.ensures) (store-last l.out a.at l.rest (omega arith)) ∙ l.invariant.4,
-      length-set l.out l.place _ ∙ l.invariant.5,
-    )
-
-pub bounds-out-place-2 : goal.bounds-out-place-2
-bounds-out-place-2 c = omega arith
-
-pub shape_of-out : goal.shape_of-out
-shape_of-out c = let l = c.loop-rest in length-set l.out l.place _ ∙ l.invariant.5
+    let l = c.loop-place in
+    record {
+      inside = l.invariant.inside;
+      digits = rw c.last_digit.ensures (last-stored l.out a.at l.place l.rest (omega arith)) ∙ l.invariant.digits;
+    }
 
 pub returns : goal.returns
+unfolding last_digits
 returns c =
     let a = c.args in
-    let l = c.loop-rest in
-    let e : l.place ≡ a.at = omega (arith, count_low l.rest (omega arith)) in
-    put-with (is-room (length a.out.now) a.at (length (decimal a.number)) l.invariant.0)
-    (record { buffer = rw (e, c.last_digit-2.ensures) (store-only l.out a.at l.rest (omega arith)) ∙ l.invariant.4; place = l.invariant.1 })
+    let l = c.loop-place in
+    let counted = c.digit_count-count.ensures in
+    let none : l.place - a.at ≡ 0 = omega arith in
+    put-with (is-room (length a.out.now) a.at (length (decimal a.number)) (rw counted at l.invariant.inside))
+    (record { buffer = rw none at l.invariant.digits; place = ap (λ n. a.at + n) counted })

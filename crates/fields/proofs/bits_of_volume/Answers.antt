@@ -24,6 +24,6 @@ pub returns-then-volume_fits : goal.returns-then-volume_fits
 unfolding volume_bits
 returns-then-volume_fits c = rw (tested (goal.at.returns-then-volume_fits c).After-volume_fits ∙ c.if-volume_fits.true) (c.bits_of_fitting.ensures ∙ rw (back (goal.at.returns-then-volume_fits c).After-volume_fits))
 
-pub returns : goal.returns
+pub returns-else-volume_fits : goal.returns-else-volume_fits
 unfolding volume_bits
-returns c = rw (tested (goal.at.returns c).After-volume_fits ∙ c.if-volume_fits.false)
+returns-else-volume_fits c = rw (tested (goal.at.returns-else-volume_fits c).After-volume_fits ∙ c.if-volume_fits.false)

@@ -1,23 +1,14 @@
 -- Each way out rewrites the tests with the branches that led there; the volume is widened before it is negated.
 use Rattle.std.proofs.Common.{◌∙◌, w32, eq-eqb, ne_eqb}
-use Rattle.laws.proofs.Machine.{widens, wide, wide-neg-fits, wide-neg}
+use Rattle.laws.proofs.Machine.{wide, wide-neg}
 use Rattle.meaning.specs.Totals.{seen_by}
 use Rattle.figures.proofs.seen_by.Goals as goal
-
-pub overflow_cast-result : goal.overflow_cast-result
-overflow_cast-result c = widens w32 c.args.v tt c.ranges.v
 
 pub returns-then-account-row : goal.returns-then-account-row
 unfolding seen_by
 returns-then-account-row c =
     let a = c.args in
     wide w32 a.v tt c.ranges.v ∙ rw (eq-eqb a.account a.row.account1 c.if-account-row.true)
-
-pub overflow_cast-result-then-account-row-2 : goal.overflow_cast-result-then-account-row-2
-overflow_cast-result-then-account-row-2 c = widens w32 c.args.v tt c.ranges.v
-
-pub overflow_sub-result : goal.overflow_sub-result
-overflow_sub-result c = wide-neg-fits w32 c.args.v tt tt c.ranges.v
 
 pub returns-then-account-row-2 : goal.returns-then-account-row-2
 unfolding seen_by

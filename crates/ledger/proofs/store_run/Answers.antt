@@ -1,40 +1,13 @@
--- After k turns the first k values are stored.
-use borrow.Author.Rules.{sfits_of}
-use mathlib.Core.Path.{refl, sym, ◌∙◌}
-use Prim.Native.Nat.{◌+◌}
+-- The part is cut off at the table's end, and what is not stored there changes nothing.
 use native.Mathlib.Omega.{arith}
-use lib.IntN.{pos}
-use lib.ListN.{length, get_or, length-set}
-use lib.Seq.{take_all}
-use mir.Facts.{to_z-of_z}
-use Rattle.laws.proofs.Cases.{by-lt}
-use Rattle.laws.proofs.Stores.{sets_more, sets-inside}
+use Prim.Native.Nat.{◌+◌, ◌-◌}
+use Rattle.laws.proofs.PartStores.{clipped-sets}
 use Rattle.ledger.proofs.store_run.Goals as goal
-
-pub loop-k-init : goal.loop-k-init
-loop-k-init c = (omega arith, c.inside-n.ensures, refl, refl)
-
-pub loop-k-preserved : goal.loop-k-preserved
-loop-k-preserved c =
-    let a = c.args in
-    let l = c.loop-k in
-    let values = a.values.now in
-    let v = get_or values l.k (pos 0) in (
-      omega arith,
-      l.invariant.1,
-      rw (to_z-of_z (sfits_of c.v-1.given), l.invariant.2) (sym (sets_more a.side.now a.at values l.k (pos 0) (omega arith))),
-      length-set l.side (a.at + l.k) _ ∙ l.invariant.3,
-    )
-
-pub shape_of-side : goal.shape_of-side
-shape_of-side c = c.loop-k.invariant.3
 
 pub returns : goal.returns
 returns c =
     let a = c.args in
-    let l = c.loop-k in
-    let values = a.values.now in
-    l.invariant.2
-    ∙ by-lt l.k (length values)
-    (λ h. sym (sets-inside a.side.now a.at values l.k (omega (arith, l.invariant.1))))
-    (λ h. rw (take_all l.k values h))
+    let from = c.min-from.result in
+    let n = c.min-n.result in
+    clipped-sets a.side.now a.at from n (from + n - from) a.values.now c.copy_from_slice.new.self
+    c.min-from.ensures c.min-n.ensures (omega arith) c.copy_from_slice.ensures.after

@@ -1,40 +1,22 @@
--- After k turns the flag says that the first k places are blank, but for those before `from`.
-use borrow.Author.Rules.{sfits_of}
-use mathlib.Core.Bool.{Bool, ◌&&◌, ◌||◌}
-use mathlib.Core.Path.{◌≡◌, refl, sym, ap, ap₂, ◌∙◌}
+-- The flag says whether every place from there on is blank.
+use mathlib.Core.Bool.{Bool, true, ◌&&◌, ◌||◌}
+use mathlib.Core.Path.{◌∙◌}
 use Prim.Native.Nat.{ℕ}
-use native.Mathlib.Omega.{arith}
-use lib.IntN.{pos}
-use lib.ListN.{length, get_or}
-use lib.Dec.{ltb, eqb}
-use mir.Syntax.{w32}
-use mir.Val.{of_z}
-use Rattle.words.specs.Tests.{sameℤ}
-use Rattle.laws.proofs.Below.{every-none, every_more}
-use Rattle.laws.proofs.Cases.{not-not}
-use Rattle.laws.proofs.Lists.{get_or-inside}
-use Rattle.laws.proofs.Machine.{eqb-least}
+use lib.IntN.{ℤ}
+use Rattle.std.proofs.Common.{rules, tests}
+use Rattle.std.proofs.lemmas.Iterator.{YieldsList-from_slice}
+use Rattle.std.proofs.lemmas.Iterator.Consumers.{fold_from_yields_List, YieldsList-from_copied, YieldsList-from_enumerate}
+use Rattle.words.specs.Tests.{◌<?◌}
 use Rattle.meaning.specs.Ledgers.{the_mark}
 use Rattle.ledger_soundness.specs.Parts.{blank}
+use Rattle.ledger_soundness.proofs.Scans.{scanned-at, blank-bits}
 use Rattle.ledger_soundness.proofs.blank_from.Goals as goal
-
-pub loop-k-init : goal.loop-k-init
-loop-k-init c = (refl, omega arith, sym (every-none _))
-
-pub loop-k-preserved : goal.loop-k-preserved
-loop-k-preserved c =
-    let a = c.args in
-    let l = c.loop-k in
-    let xs = a.part.now in
-    let v = get_or xs l.k (pos 0) in
-    let f : ℕ → Bool = λ j. ltb j a.from || blank (get_or xs j the_mark) in
-    let e : eqb (of_z w32 v) 2147483648 ≡ blank (get_or xs l.k the_mark) =
-    eqb-least v (sfits_of c.v-1.given) ∙ sym (not-not (sameℤ v the_mark)) ∙ ap blank (get_or-inside xs l.k (pos 0) the_mark (omega arith)) in
-    (l.invariant.0, omega arith, ap₂ ◌&&◌ l.invariant.2 (ap (λ (b : Bool). ltb l.k a.from || b) e) ∙ sym (every_more l.k f))
 
 pub returns : goal.returns
 returns c =
-    let l = c.loop-k in
-    let xs = c.args.part.now in
-    let e : l.k ≡ length xs = omega arith in
-    l.invariant.2 ∙ rw e
+    let a = c.args in
+    let part = a.part.now in
+    fold_from_yields_List _ (λ (ok : Bool) (e : ℕ × ℤ). ok && (e.0 <? a.from || blank e.1)) true c.fold.result c.fold.ensures.ran
+    (YieldsList-from_enumerate (YieldsList-from_copied (YieldsList-from_slice part cc)) cc)
+    (λ ok e b q k. search (rules, tests, blank-bits))
+    ∙ scanned-at the_mark (λ (k : ℕ) (x : ℤ). k <? a.from || blank x) part

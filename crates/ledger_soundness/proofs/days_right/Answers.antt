@@ -14,7 +14,7 @@ use Rattle.ledger_soundness.proofs.Tables.{day-length}
 use Rattle.ledger_soundness.proofs.days_right.Goals as goal
 
 pub loop-d-init : goal.loop-d-init
-loop-d-init c = (omega arith, sym (every-none _))
+loop-d-init c = sym (every-none _)
 
 pub row_right-ok-requires : goal.row_right-ok-requires
 unfolding index
@@ -27,11 +27,9 @@ pub loop-d-preserved : goal.loop-d-preserved
 loop-d-preserved c =
     let a = c.args in
     let l = c.loop-d in
-    let e = c.periods_of-periods.ensures ∙ sym (periods-inside a.c l.d c.loop-d-test.true) in (
-      omega arith,
-      ap₂ ◌&&◌ l.invariant.1 (c.row_right-ok.ensures ∙ rw (e, c.place_of-base.ensures))
-          ∙ sym (every_more l.d (λ (k : ℕ). row_right a.side.now (index a.c.days a.slot k 1) (periods_at (time_of a.c).codes k) a.held)),
-    )
+    let e = c.periods_of-periods.ensures ∙ sym (periods-inside a.c l.d c.loop-d-test.true) in
+    ap₂ ◌&&◌ l.invariant (c.row_right-ok.ensures ∙ rw (e, c.place_of-base.ensures))
+    ∙ sym (every_more l.d (λ (k : ℕ). row_right a.side.now (index a.c.days a.slot k 1) (periods_at (time_of a.c).codes k) a.held))
 
 pub returns : goal.returns
 unfolding days_right
@@ -39,4 +37,4 @@ returns c =
     let a = c.args in
     let l = c.loop-d in
     let e : l.d ≡ a.c.days = omega arith in
-    l.invariant.1 ∙ ap (λ (n : ℕ). every_below n (λ (k : ℕ). row_right a.side.now (index a.c.days a.slot k 1) (periods_at (time_of a.c).codes k) a.held)) e
+    l.invariant ∙ ap (λ (n : ℕ). every_below n (λ (k : ℕ). row_right a.side.now (index a.c.days a.slot k 1) (periods_at (time_of a.c).codes k) a.held)) e

@@ -1,6 +1,6 @@
 -- After d turns the flag says that the first d days of the slot are right.
 use mathlib.Core.Path.{◌≡◌}
-use Prim.Native.Nat.{ℕ, ◌-◌, ◌≤◌}
+use Prim.Native.Nat.{ℕ}
 use Rattle.words.specs.Below.{every_below}
 use Rattle.meaning.specs.Time.{periods_at}
 use Rattle.meaning.specs.Ledgers.{index}
@@ -10,7 +10,4 @@ use Rattle.ledger_soundness.proofs.days_right.Given as goal
 
 abbrev pub invariant-loop-d : goal.invariant-loop-d
 invariant-loop-d l =
-    (l.d ≤ l.c.days) × (l.ok ≡ every_below l.d (λ (k : ℕ). row_right l.side (index l.c.days l.slot k 1) (periods_at (time_of l.c).codes k) l.held))
-
-abbrev pub decreases-loop-d : goal.decreases-loop-d
-decreases-loop-d l = l.c.days - l.d
+    l.ok ≡ every_below l.d (λ (k : ℕ). row_right l.side (index l.c.days l.slot k 1) (periods_at (time_of l.c).codes k) l.held)

@@ -1,4 +1,4 @@
--- A table of another length is wrong; of a right one the flag says after s turns that the first s slots are right.
+-- A table of another length is wrong; of a right one the flag says before each slot that those before it are right.
 use mathlib.Core.Bool.{Bool, ◌&&◌}
 use mathlib.Core.Path.{◌≡◌, sym, ap, ap₂, ◌∙◌}
 use Prim.Native.Nat.{ℕ, ◌*◌}
@@ -42,38 +42,36 @@ returns-then-side-held c =
     let a = c.args in
     rw (le-leb a.c.days 8 c.if-days-gt-MOST_DAYS_WIDE.false, le-leb (length a.held.now) 256 c.if-held-gt-MOST_SLOTS.false, ne_eqb (length a.side.now) (places (length a.held.now) a.c.days) c.if-side-held.true)
 
-pub loop-s-init : goal.loop-s-init
-loop-s-init c = (omega arith, sym (every-none _))
+pub loop-slot-init : goal.loop-slot-init
+loop-slot-init c = sym (every-none _)
 
-pub overflow_cast-s : goal.overflow_cast-s
-overflow_cast-s c =
+pub overflow_cast-slot : goal.overflow_cast-slot
+overflow_cast-slot c =
     omega (arith, c.if-held-gt-MOST_SLOTS.false)
 
 pub days_right-ok-requires : goal.days_right-ok-requires
 days_right-ok-requires c =
     let a = c.args in
-    let s = c.loop-s.s in
+    let s = c.loop-slot.slot in
     record {
       days-few = c.if-days-gt-MOST_DAYS_WIDE.false;
-      inside = omega (arith, c.if-side-held.false, mul-le-mul_right (a.c.days * 50) c.loop-s-test.true);
+      inside = omega (arith, c.if-side-held.false, mul-le-mul_right (a.c.days * 50) c.loop-slot-test.true);
     }
 
-pub loop-s-preserved : goal.loop-s-preserved
-loop-s-preserved c =
+pub loop-slot-preserved : goal.loop-slot-preserved
+loop-slot-preserved c =
     let a = c.args in
-    let l = c.loop-s in
-    let held = a.held.now in (
-      omega arith,
-      ap₂ ◌&&◌ l.invariant.1 (c.days_right-ok.ensures ∙ ap (λ (b : Bool). days_right a.side.now l.s b a.c) (sym (held_test (get_or held l.s 0))))
-          ∙ sym (every_more l.s (λ (k : ℕ). days_right a.side.now k (ltb 0 (get_or held k 0)) a.c)),
-    )
+    let l = c.loop-slot in
+    let held = a.held.now in
+    ap₂ ◌&&◌ l.invariant (c.days_right-ok.ensures ∙ ap (λ (b : Bool). days_right a.side.now l.slot b a.c) (sym (held_test (get_or held l.slot 0))))
+    ∙ sym (every_more l.slot (λ (k : ℕ). days_right a.side.now k (ltb 0 (get_or held k 0)) a.c))
 
 pub returns : goal.returns
 unfolding side_right
 returns c =
     let a = c.args in
-    let l = c.loop-s in
-    let e : l.s ≡ length a.held.now = omega arith in
+    let l = c.loop-slot in
+    let e : l.slot ≡ length a.held.now = omega arith in
     let w = c.if-side-held.false in
     rw (le-leb a.c.days 8 c.if-days-gt-MOST_DAYS_WIDE.false, le-leb (length a.held.now) 256 c.if-held-gt-MOST_SLOTS.false, eq-eqb (length a.side.now) (places (length a.held.now) a.c.days) w)
-    (l.invariant.1 ∙ ap (λ (n : ℕ). every_below n (λ (k : ℕ). days_right a.side.now k (ltb 0 (get_or a.held.now k 0)) a.c)) e ∙ sym (table-days a.side.now a.held.now a.c w))
+    (l.invariant ∙ ap (λ (n : ℕ). every_below n (λ (k : ℕ). days_right a.side.now k (ltb 0 (get_or a.held.now k 0)) a.c)) e ∙ sym (table-days a.side.now a.held.now a.c w))

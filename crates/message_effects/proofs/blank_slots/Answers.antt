@@ -18,7 +18,7 @@ use Rattle.message_effects.proofs.blank_slots.Goals.{then-of_pair, else-of_pair}
 pub loop-s-init : goal.loop-s-init
 loop-s-init c =
     let a = c.args in
-    (omega arith, refl, λ σ. pairs-none (rows_of a.b.setup.authorisations a.b.setup.rows) (time_in a.b) (record { account = a.account; other = a.other; first = a.first }) a.held.now σ a.side.now)
+    (refl, λ σ. pairs-none (rows_of a.b.setup.authorisations a.b.setup.rows) (time_in a.b) (record { account = a.account; other = a.other; first = a.first }) a.held.now σ a.side.now)
 
 pub loop-s-preserved : goal.loop-s-preserved
 loop-s-preserved c =
@@ -33,22 +33,20 @@ loop-s-preserved c =
       | then-of_pair w ↦
           let blanked : w.write_days.new.side ≡ map_at (slot_rule t l.s a.first 0 zeros) l.side =
           w.write_days.ensures ∙ ap (λ (t' : Time). map_at (slot_rule t' l.s a.first 0 zeros) l.side) (clock-time a.b c.clock_of-c.ensures) in (
-            omega arith,
-            c.if-of_pair.auto.side ∙ l.invariant.1,
-            λ σ. w.side-is ∙ pair-blanked rows t x a.held.now σ a.side.now l.s zeros l.side w.write_days.new.side pair.result (l.invariant.2 σ) pair.ensures w.if-of_pair.true blanked,
+            c.if-of_pair.auto.side ∙ l.invariant.0,
+            λ σ. w.side-is ∙ pair-blanked rows t x a.held.now σ a.side.now l.s zeros l.side w.write_days.new.side pair.result (l.invariant.1 σ) pair.ensures w.if-of_pair.true blanked,
           )
       | else-of_pair w ↦ (
-        omega arith,
-        c.if-of_pair.auto.side ∙ l.invariant.1,
-        λ σ. pair-other rows t x a.held.now σ a.side.now l.s l.side c.if-of_pair.side pair.result (l.invariant.2 σ) pair.ensures w.if-of_pair.false w.side-is,
+        c.if-of_pair.auto.side ∙ l.invariant.0,
+        λ σ. pair-other rows t x a.held.now σ a.side.now l.s l.side c.if-of_pair.side pair.result (l.invariant.1 σ) pair.ensures w.if-of_pair.false w.side-is,
       )
     ]
 
 pub shape_of-side : goal.shape_of-side
-shape_of-side c = c.loop-s.invariant.1
+shape_of-side c = c.loop-s.invariant.0
 
 pub returns : goal.returns
 returns c = λ σ.
     let a = c.args in
     let l = c.loop-s in
-    pairs-all (rows_of a.b.setup.authorisations a.b.setup.rows) (time_in a.b) (record { account = a.account; other = a.other; first = a.first }) a.held.now σ a.side.now l.s l.side (l.invariant.2 σ) (omega arith)
+    pairs-all (rows_of a.b.setup.authorisations a.b.setup.rows) (time_in a.b) (record { account = a.account; other = a.other; first = a.first }) a.held.now σ a.side.now l.s l.side (l.invariant.1 σ) (omega arith)

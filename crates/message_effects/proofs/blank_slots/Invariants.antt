@@ -1,6 +1,6 @@
 -- After s turns the places of the slots before s are what the nullification makes of them, and the others as they were.
 use mathlib.Core.Path.{◌≡◌}
-use Prim.Native.Nat.{ℕ, ◌-◌, ◌≤◌}
+use Prim.Native.Nat.{ℕ}
 use lib.Dec.{ltb}
 use lib.ListN.{length}
 use Rattle.words.specs.Lists.{map_at}
@@ -14,9 +14,5 @@ use Rattle.message_effects.proofs.blank_slots.Given as goal
 
 abbrev pub invariant-loop-s : goal.invariant-loop-s
 invariant-loop-s l =
-    (l.s ≤ length l.held)
-    × (length l.side ≡ length l.initial.side)
+    (length l.side ≡ length l.initial.side)
     × ((σ : Side) → l.side ≡ map_at (only (λ (j : ℕ). ltb (slot_at (days (time_in l.b)) j) l.s) (place_rule (rows_of l.b.setup.authorisations l.b.setup.rows) (time_in l.b) (nullified l.account l.other l.first) l.held σ)) l.initial.side)
-
-abbrev pub decreases-loop-s : goal.decreases-loop-s
-decreases-loop-s l = length l.held - l.s

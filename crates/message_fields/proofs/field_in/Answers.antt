@@ -1,23 +1,39 @@
 -- Bytes that are refused have no field but zero; of the others the kind first, then the field of the kind's own part.
-use mathlib.Core.Path.{◌≡◌, sym, ◌∙◌}
+use mathlib.Core.Bool.{true, false}
+use mathlib.Core.Logic.{◌≢◌}
+use mathlib.Core.Path.{◌≡◌, refl, sym, ◌∙◌}
 use mir.Facts.{to_z_pos}
 use mir.Syntax.{w64}
 use native.Mathlib.Omega.{arith}
 use borrow.Author.Tests.{ne_eqb}
 use Rattle.words.specs.Rules.{answer}
+use Rattle.std.specs.Prelude.{Result, Ok, Err}
+use Rattle.std.specs.Result.{is_err}
+use Rattle.limits.specs.declared.refusals.Refusal.{Refusal}
+use Rattle.limits.specs.Refusals.{answer_of}
+use Rattle.limits.proofs.AnswerNumbers as AnswerNumbers
 use Rattle.laws.proofs.Machine.{back}
 use Rattle.meaning.specs.PackedMessages.{kind_in, reading_rules}
 use Rattle.message_fields.proofs.FieldLaws.{refused-field, field-by-kind}
 use Rattle.message_fields.proofs.field_in.Goals as goal
 use Rattle.message_fields.proofs.field_in.Goals.{After-kind_in-kind}
 
-pub returns-then-reading_refusal-ne0 : goal.returns-then-reading_refusal-ne0
-returns-then-reading_refusal-ne0 c =
+-- an outcome is done just where its number is 0
+is-done : (r : Result Unit Refusal) → is_err r ≡ false → answer_of r ≡ 0
+is-done (Ok _) e = refl
+is-done (Err _) e = absurd (cc)
+
+never-done : (r : Result Unit Refusal) → is_err r ≡ true → answer_of r ≢ 0
+never-done (Ok _) e z = absurd (cc)
+never-done (Err r) e z = AnswerNumbers.never-done r z
+
+pub returns-then-is_err : goal.returns-then-is_err
+returns-then-is_err c =
     let a = c.args in
-    sym (refused-field a.bytes.now a.field (λ z. c.if-reading_refusal-ne0.true (c.reading_refusal.ensures ∙ z)))
+    sym (refused-field a.bytes.now a.field (λ z. never-done c.reading_refusal.result (sym c.is_err.ensures.value ∙ c.if-is_err.true) (c.reading_refusal.ensures ∙ z)))
 
 read : (c : After-kind_in-kind) → answer (reading_rules c.args.bytes.now) ≡ 0
-read c = sym c.reading_refusal.ensures ∙ c.if-reading_refusal-ne0.false
+read c = sym c.reading_refusal.ensures ∙ is-done c.reading_refusal.result (sym c.is_err.ensures.value ∙ c.if-is_err.false)
 
 kind : (c : After-kind_in-kind) → kind_in c.args.bytes.now ≡ c.kind_in-kind.result
 kind c = sym c.kind_in-kind.ensures
@@ -56,6 +72,6 @@ returns-in_default c =
       field-by-kind a.bytes.now a.field (read (goal.at.returns-in_default c).After-kind_in-kind),
       ne_eqb a.field 0 c.if-field-eq0.false,
       kind (goal.at.returns-in_default c).After-kind_in-kind,
-      ne_eqb c.kind_in-kind.result 1 c.in_default.in_default-own.rest.0.1,
-      ne_eqb c.kind_in-kind.result 2 c.in_default.in_default-own.rest.1,
+      ne_eqb c.kind_in-kind.result 1 (omega arith),
+      ne_eqb c.kind_in-kind.result 2 (omega arith),
     )

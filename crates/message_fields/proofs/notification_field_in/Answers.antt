@@ -46,16 +46,15 @@ pub returns-in_default : goal.returns-in_default
 unfolding notification_field
 returns-in_default c =
     let field = c.args.field in
-    let rest = c.in_default.in_default-own.rest in
     rw (
       back w64 c.entry_field_in.result c.entry_field_in.type_inv,
       c.entry_field_in.ensures,
-      ne_eqb field 1 rest.0.0.0.0.0.0.0.1,
-      ne_eqb field 2 rest.0.0.0.0.0.0.1,
-      ne_eqb field 3 rest.0.0.0.0.0.1,
-      ne_eqb field 4 rest.0.0.0.0.1,
-      ne_eqb field 5 rest.0.0.0.1,
-      ne_eqb field 6 rest.0.0.1,
-      ne_eqb field 7 rest.0.1,
-      ne_eqb field 8 rest.1,
+      ne_eqb field 1 (omega arith),
+      ne_eqb field 2 (omega arith),
+      ne_eqb field 3 (omega arith),
+      ne_eqb field 4 (omega arith),
+      ne_eqb field 5 (omega arith),
+      ne_eqb field 6 (omega arith),
+      ne_eqb field 7 (omega arith),
+      ne_eqb field 8 (omega arith),
     )

@@ -26,7 +26,7 @@ unfolding nullification_field
 returns-in_default c =
     let field = c.args.field in
     rw (
-      ne_eqb field 6 c.in_default.in_default-own.rest.0.0.1,
-      ne_eqb field 9 c.in_default.in_default-own.rest.0.1,
-      ne_eqb field 10 c.in_default.in_default-own.rest.1,
+      ne_eqb field 6 (omega arith),
+      ne_eqb field 9 (omega arith),
+      ne_eqb field 10 (omega arith),
     )

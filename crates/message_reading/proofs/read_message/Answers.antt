@@ -1,63 +1,40 @@
--- What is not refused is read part by part, and that is the message that the fields' values make; what is refused has the parts of a gate.
-use mathlib.Core.List.{List}
-use mathlib.Core.Logic.{◌≢◌}
-use mathlib.Core.Path.{◌≡◌, ap, ◌∙◌}
-use Prim.Native.Nat.{ℕ}
-use borrow.Author.Tests.{ne_eqb}
-use Rattle.std.specs.Prelude.{if◌then◌else◌}
-use Rattle.words.specs.Tests.{◌=?◌}
+-- What is not refused is read part by part, and that is the message that the fields' values make; what is refused is as a gate.
+use Rattle.std.proofs.Common.{◌≡◌, ℕ, List, sym, ap, ◌∙◌, rules}
+use Rattle.std.specs.Prelude.{Err}
 use Rattle.words.specs.Rules.{answer}
-use Rattle.laws.proofs.Cases.{by-eq}
-use Rattle.meaning.specs.PackedMessages.{kind_in, reading_rules, read_message}
-use Rattle.meaning.proofs.PackedMessageRules.{readable, reading-answer, reading-done}
-use Rattle.messages.specs.Structs.{message_for}
+use Rattle.words.specs.Fields.{bytes_for}
+use Rattle.limits.specs.declared.refusals.Refusal.{Refusal}
+use Rattle.limits.specs.Refusals.{number_of}
+use Rattle.limits.proofs.AnswerNumbers.{not-done}
+use Rattle.meaning.specs.PackedMessages.{kind_in, layout_in, reading_rules, read_message}
+use Rattle.meaning.proofs.PackedMessageRules.{readable, reading-done}
 use Rattle.messages.specs.declared.Message.{Message}
-use Rattle.message_reading.specs.Structs.{message_read}
-use Rattle.message_reading.specs.declared.Size.{Size}
+use Rattle.message_reading.specs.Structs.{message_read, read_as}
+use Rattle.message_reading.specs.declared.MessageRead.{MessageRead}
 use Rattle.message_reading.proofs.ReadParts.{message-parts, parts_of, parts_are}
 use Rattle.message_reading.proofs.read_message.Goals as goal
-use Rattle.message_reading.proofs.read_message.Goals.{After-kind_read-kind, After-size_in-size}
 
-module _ (s : List ℕ) where
-  -- the kind that is read
-  abbrev kind_read : ℕ
-  kind_read = if answer (reading_rules s) =? 0 then kind_in s else 0
+refused : (s : List ℕ) (r : Refusal) → number_of r ≡ answer (reading_rules s) → read_as (Err r) ≡ message_read (read_message s)
+unfolding message_read read_message
+refused s r e = rw (← e, not-done r)
 
-  -- the message of that kind
-  message-read : parts_of s kind_read ≡ message_for (read_message s).read
-  unfolding read_message
-  message-read =
-      by-eq (answer (reading_rules s)) 0
-      (λ z. rw (reading-done s z, z) (parts_are s (readable s z).kind ∙ message-parts s (readable s z).kind))
-      (λ n. refused n)
-    where
-      refused : answer (reading_rules s) ≢ 0 → parts_of s kind_read ≡ message_for (read_message s).read
-      refused n = rw (ne_eqb (answer (reading_rules s)) 0 n)
+given : (s : List ℕ) → answer (reading_rules s) ≡ 0
+    → ◌≡◌ {A = MessageRead} (record { answer = 0; length = (read_message s).length; message = parts_of s (kind_in s) }) (message_read (read_message s))
+unfolding message_read
+given s z =
+    let k = (readable s z).kind in
+    rw (reading-done s z) (ap (λ (m : Message). record { answer = 0; length = bytes_for (layout_in s); message = m }) (parts_are s k ∙ message-parts s k))
 
--- the answer, the length and the kind, of the definitions
-module _ (c : After-size_in-size) where
-  abbrev bytes : List ℕ
-  bytes = c.args.bytes.now
-
-  answer-is : c.size_in-size.result.answer ≡ answer (reading_rules bytes)
-  answer-is = ap (λ (x : Size). x.answer) c.size_in-size.ensures
-
-  taken_is : c.size_in-size.result.taken ≡ (read_message bytes).length
-  taken_is = ap (λ (x : Size). x.taken) c.size_in-size.ensures
-
-kind-is : (c : After-kind_read-kind) → c.kind_read-kind.result ≡ kind_read (bytes (goal.at.After-kind_read-kind c).After-size_in-size)
-kind-is c = c.kind_read-kind.ensures ∙ rw (answer-is (goal.at.After-kind_read-kind c).After-size_in-size)
+pub returns-in_err-length : goal.returns-in_err-length
+returns-in_err-length c =
+    let e = refused c.args.bytes.now c.in_err-length.field-0.0 c.in_err-length.ensures.0 in search (rules, e)
 
 pub returns : goal.returns
-unfolding message_read
 returns c =
-    let s = bytes (goal.at.returns c).After-size_in-size in
     rw (
-      c.notification_of-notification.ensures,
-      c.nullification_of-nullification.ensures,
-      kind-is (goal.at.returns c).After-kind_read-kind,
-      taken_is (goal.at.returns c).After-size_in-size,
-      answer-is (goal.at.returns c).After-size_in-size,
-      reading-answer s,
+      c.notification_of.ensures,
+      c.nullification_of.ensures,
+      c.kind_in-kind.ensures,
+      c.in_ok-length.ensures.1,
     )
-    (ap (λ (m : Message). record { answer = answer (reading_rules s); length = (read_message s).length; message = m }) (message-read s))
+    (given c.args.bytes.now (sym c.in_ok-length.ensures.0))

@@ -1,45 +1,25 @@
--- The loop's invariant: the entries passed fit.
-use mathlib.Core.Bool.{Bool, true}
-use mathlib.Core.Path.{◌≡◌, sym, ◌∙◌}
-use Prim.Native.Nat.{ℕ, ◌≤◌}
+-- The entries in the front of the array, each tested.
+use mathlib.Core.Path.{◌≡◌, ◌∙◌}
+use lib.ListN.{take}
 use native.Mathlib.Omega.{arith}
-use lib.ListN.{get_or}
 use borrow.Author.Tests.{le-leb, lt-leb}
-use Rattle.laws.proofs.Cases.{both}
-use Rattle.laws.proofs.Below.{every-none, every_more, every-miss}
+use Rattle.std.proofs.Common.{rules, tests}
+use Rattle.std.specs.List.{list_all}
+use Rattle.std.proofs.lemmas.Iterator.{YieldsList-from_slice}
+use Rattle.std.proofs.lemmas.Iterator.Search.{all_from_yields_List}
+use Rattle.laws.proofs.AllBelow.{all-below}
 use Rattle.messages.specs.Structs.{no_entry}
 use Rattle.message_writing.specs.Writing.{entry_fits, entries_fit}
 use Rattle.message_writing.proofs.entries_fit.Goals as goal
 
-pub returns-then-count-gt-MOST_ENTRIES : goal.returns-then-count-gt-MOST_ENTRIES
+pub returns-then-n-le-MOST_ENTRIES : goal.returns-then-n-le-MOST_ENTRIES
 unfolding entries_fit
-returns-then-count-gt-MOST_ENTRIES c = rw (lt-leb c.args.n.count 50 c.if-count-gt-MOST_ENTRIES.true)
+returns-then-n-le-MOST_ENTRIES c =
+    let n = c.args.n in
+    let each : c.all.result ≡ list_all entry_fits (take n.count n.entries) =
+    all_from_yields_List entry_fits _ _ c.all.result c.all.ensures.ran (YieldsList-from_slice (take n.count n.entries) cc) (λ x b q k. search (rules, tests)) in
+    rw (le-leb n.count 50 c.if-n-le-MOST_ENTRIES.true) (each ∙ all-below entry_fits no_entry n.count n.entries (omega arith))
 
-pub loop-k-init : goal.loop-k-init
-loop-k-init c = (omega arith, every-none _)
-
-pub returns-then-not-entry_fits : goal.returns-then-not-entry_fits
+pub returns-else-n-le-MOST_ENTRIES : goal.returns-else-n-le-MOST_ENTRIES
 unfolding entries_fit
-returns-then-not-entry_fits c =
-    let n = c.args.n in
-    let k = c.loop-k.k in
-    rw (
-      le-leb n.count 50 c.if-count-gt-MOST_ENTRIES.false,
-      every-miss n.count (λ (j : ℕ). entry_fits (get_or n.entries j no_entry)) k (omega arith) (sym c.entry_fits.ensures ∙ c.if-not-entry_fits.true),
-    )
-
-pub loop-k-preserved : goal.loop-k-preserved
-loop-k-preserved c =
-    let n = c.args.n in
-    let k = c.loop-k.k in
-    let fits : ℕ → Bool = λ j. entry_fits (get_or n.entries j no_entry) in
-    let here : fits k ≡ true = sym c.entry_fits.ensures ∙ c.if-not-entry_fits.false in
-    (omega arith, every_more k fits ∙ both c.loop-k.invariant.1 here)
-
-pub returns : goal.returns
-unfolding entries_fit
-returns c =
-    let n = c.args.n in
-    let e : c.loop-k.k ≡ n.count = omega arith in
-    let l : n.count ≤ 50 = c.if-count-gt-MOST_ENTRIES.false in
-    rw (le-leb n.count 50 l, ← e) (sym c.loop-k.invariant.1)
+returns-else-n-le-MOST_ENTRIES c = rw (lt-leb c.args.n.count 50 c.if-n-le-MOST_ENTRIES.false)

@@ -4,4 +4,4 @@ use Rattle.message_writing.proofs.notification_fits.Goals as goal
 
 pub returns : goal.returns
 unfolding notification_fits
-returns c = rw c.entries_fit-entries.ensures
+returns c = rw c.entries_fit.ensures

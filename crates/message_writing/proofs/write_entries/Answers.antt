@@ -13,8 +13,7 @@ use Rattle.message_writing.proofs.WriteParts.{into-none, into_more, into-length}
 use Rattle.message_writing.proofs.write_entries.Goals as goal
 
 pub loop-k-init : goal.loop-k-init
-loop-k-init c =
-    (omega arith, c.entries_inside-most.ensures, sym (into-none c.args.n c.args.out.now))
+loop-k-init c = sym (into-none c.args.n c.args.out.now)
 
 pub loop-k-preserved : goal.loop-k-preserved
 unfolding write_from
@@ -23,20 +22,17 @@ loop-k-preserved c =
     let l = c.loop-k in
     let z : ℤ = (get_or a.n.entries l.k no_entry).volume in
     let call = c.bits_of_volume in
-    let bits : call.result ≡ volume_bits z = call.ensures ∙ ap volume_bits (to_z-of_z {w = w32} (record { sfits = search })) in (
-      omega arith,
-      l.invariant.1,
-      c.write_fields.ensures ∙ rw (bits, l.invariant.2) (sym (into_more a.n a.out.now l.k)),
-    )
+    let bits : call.result ≡ volume_bits z = call.ensures ∙ ap volume_bits (to_z-of_z {w = w32} (record { sfits = search })) in
+    c.write_fields.ensures ∙ rw (bits, l.invariant) (sym (into_more a.n a.out.now l.k))
 
 pub shape_of-out : goal.shape_of-out
 shape_of-out c =
     let a = c.args in
-    ap length c.loop-k.invariant.2 ∙ into-length a.n a.out.now c.loop-k.k
+    ap length c.loop-k.invariant ∙ into-length a.n a.out.now c.loop-k.k
 
 pub returns : goal.returns
 unfolding entries_written
 returns c =
     let a = c.args in
-    let e : c.loop-k.k ≡ min a.n.count 50 = omega arith in
-    c.loop-k.invariant.2 ∙ ap (entries_into a.n a.out.now) e
+    let e : c.loop-k.k ≡ min a.n.count 50 = omega (arith, c.entries_inside-k-end.ensures) in
+    c.loop-k.invariant ∙ ap (entries_into a.n a.out.now) e

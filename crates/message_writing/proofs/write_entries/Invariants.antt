@@ -1,11 +1,7 @@
 -- The loop's invariant: the entries passed are written behind the head.
 use mathlib.Core.Path.{◌≡◌}
-use Prim.Native.Nat.{◌-◌, ◌≤◌, min}
 use Rattle.message_writing.specs.Writing.{entries_into}
 use Rattle.message_writing.proofs.write_entries.Given as goal
 
 abbrev pub invariant-loop-k : goal.invariant-loop-k
-invariant-loop-k l = (l.k ≤ l.most) × (l.most ≡ min l.n.count 50) × (l.out ≡ entries_into l.n l.initial.out l.k)
-
-abbrev pub decreases-loop-k : goal.decreases-loop-k
-decreases-loop-k l = l.most - l.k
+invariant-loop-k l = l.out ≡ entries_into l.n l.initial.out l.k

@@ -1,24 +1,21 @@
 -- Each refusal is the rule of its test, by what the struct's types hold.
-use mathlib.Core.Path.{◌≡◌, sym, ap, ◌∙◌}
+use mathlib.Core.Path.{◌≡◌, sym, ◌∙◌}
 use native.Mathlib.Omega.{arith}
 use Rattle.words.specs.Fields.{bytes_for}
 use Rattle.meaning.specs.PackedMessages.{layout_for}
 use Rattle.message_writing.specs.Writing.{count_of}
-use Rattle.messages.specs.Parts.{kind_refusal}
 use Rattle.message_writing.proofs.StructRanges.{held}
 use Rattle.message_writing.proofs.WriteParts.{refused-20, refused-23, refused-24, refused_none}
 use Rattle.message_writing.proofs.writing_refusal.Goals as goal
 use Rattle.message_writing.proofs.writing_refusal.Goals.{After-bytes_for}
 
-pub returns-then-kind-eq3 : goal.returns-then-kind-eq3
-returns-then-kind-eq3 c =
-    let a = c.args in
-    c.kind_refusal.ensures ∙ ap kind_refusal c.if-kind-eq3.true ∙ sym (refused-20 a.m a.room c.if-kind-eq3.true)
+pub returns-then-m-eq3 : goal.returns-then-m-eq3
+returns-then-m-eq3 c = sym (refused-20 c.args.m c.args.room c.if-m-eq3.true)
 
 pub returns-then-not-message_fits : goal.returns-then-not-message_fits
 returns-then-not-message_fits c =
     sym
-    (refused-23 c.args.m c.args.room (held c.args.m c.well_formed.0) c.if-kind-eq3.false
+    (refused-23 c.args.m c.args.room (held c.args.m c.well_formed.0) c.if-m-eq3.false
     (sym c.message_fits.ensures ∙ c.if-not-message_fits.true))
 
 -- the bytes that the whole message takes
@@ -28,13 +25,13 @@ whole c = c.bytes_for.ensures ∙ rw c.count_of.ensures
 pub returns-then-room-bytes_for : goal.returns-then-room-bytes_for
 returns-then-room-bytes_for c =
     sym
-    (refused-24 c.args.m c.args.room (held c.args.m c.well_formed.0) c.if-kind-eq3.false
+    (refused-24 c.args.m c.args.room (held c.args.m c.well_formed.0) c.if-m-eq3.false
     (sym c.message_fits.ensures ∙ c.if-not-message_fits.false)
     (omega (arith, whole (goal.at.returns-then-room-bytes_for c).After-bytes_for, c.if-room-bytes_for.true)))
 
 pub returns : goal.returns
 returns c =
     sym
-    (refused_none c.args.m c.args.room (held c.args.m c.well_formed.0) c.if-kind-eq3.false
+    (refused_none c.args.m c.args.room (held c.args.m c.well_formed.0) c.if-m-eq3.false
     (sym c.message_fits.ensures ∙ c.if-not-message_fits.false)
     (omega (arith, whole (goal.at.returns c).After-bytes_for, c.if-room-bytes_for.false)))

@@ -9,12 +9,14 @@ use Rattle.notification_kinds.proofs.kind_of.Goals.{Else-not-tables_fit}
 pub returns-then-not-tables_fit : goal.returns-then-not-tables_fit
 returns-then-not-tables_fit c =
     let a = c.args in
-    sym (kind-unfit a.b a.held.now a.side1.now a.side2.now (notification_of a.n) (sym c.tables_fit.ensures ∙ c.if-not-tables_fit.true))
+    let v = a.view in
+    sym (kind-unfit v.book v.held.now v.side1.now v.side2.now (notification_of a.n) (sym c.tables_fit.ensures ∙ c.if-not-tables_fit.true))
 
-fitting : (c : Else-not-tables_fit) → let a = c.args in Fits a.b a.held.now a.side1.now a.side2.now
+fitting : (c : Else-not-tables_fit) → let v = c.args.view in Fits v.book v.held.now v.side1.now v.side2.now
 fitting c =
     let a = c.args in
-    test_fits a.b a.held.now a.side1.now a.side2.now (sym c.tables_fit.ensures ∙ c.if-not-tables_fit.false)
+    let v = a.view in
+    test_fits v.book v.held.now v.side1.now v.side2.now (sym c.tables_fit.ensures ∙ c.if-not-tables_fit.false)
 
 pub kind_in-requires : goal.kind_in-requires
 kind_in-requires c = fitting (goal.at.kind_in-requires c).Else-not-tables_fit
@@ -22,4 +24,5 @@ kind_in-requires c = fitting (goal.at.kind_in-requires c).Else-not-tables_fit
 pub returns : goal.returns
 returns c =
     let a = c.args in
-    c.kind_in.ensures ∙ sym (kind-fitting a.b a.held.now a.side1.now a.side2.now (notification_of a.n) (fitting (goal.at.returns c).Else-not-tables_fit))
+    let v = a.view in
+    c.kind_in.ensures ∙ sym (kind-fitting v.book v.held.now v.side1.now v.side2.now (notification_of a.n) (fitting (goal.at.returns c).Else-not-tables_fit))

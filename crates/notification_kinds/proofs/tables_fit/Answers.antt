@@ -3,22 +3,23 @@ use mathlib.Core.Path.{sym}
 use Prim.Native.Nat.{◌*◌, ◌≤◌}
 use native.Mathlib.Nat.{mul-le-mul}
 use native.Mathlib.Omega.{arith}
+use lib.ListN.{length}
 use Rattle.notification_kinds.proofs.KindLaws.{too-many-days, too-many-slots, lent-decide}
 use Rattle.notification_kinds.proofs.tables_fit.Goals as goal
 use Rattle.notification_kinds.proofs.tables_fit.Goals.{Else-slots-gt-MOST_SLOTS}
 
-few : (c : Else-slots-gt-MOST_SLOTS) → let a = c.args in a.slots * a.b.setup.days ≤ 256 * 8
+few : (c : Else-slots-gt-MOST_SLOTS) → let v = c.args.view in length v.held.now * v.book.setup.days ≤ 256 * 8
 few c = mul-le-mul c.if-slots-gt-MOST_SLOTS.false c.if-days-gt-MOST_DAYS.false
 
 pub returns-then-days-gt-MOST_DAYS : goal.returns-then-days-gt-MOST_DAYS
 returns-then-days-gt-MOST_DAYS c =
-    let a = c.args in
-    sym (too-many-days a.b a.slots a.lent1 a.lent2 c.if-days-gt-MOST_DAYS.true)
+    let v = c.args.view in
+    sym (too-many-days v.book (length v.held.now) (length v.side1.now) (length v.side2.now) c.if-days-gt-MOST_DAYS.true)
 
 pub returns-then-slots-gt-MOST_SLOTS : goal.returns-then-slots-gt-MOST_SLOTS
 returns-then-slots-gt-MOST_SLOTS c =
-    let a = c.args in
-    sym (too-many-slots a.b a.slots a.lent1 a.lent2 c.if-slots-gt-MOST_SLOTS.true)
+    let v = c.args.view in
+    sym (too-many-slots v.book (length v.held.now) (length v.side1.now) (length v.side2.now) c.if-slots-gt-MOST_SLOTS.true)
 
 pub overflow_mul-all : goal.overflow_mul-all
 overflow_mul-all c = omega (arith, few (goal.at.overflow_mul-all c).Else-slots-gt-MOST_SLOTS)
@@ -28,5 +29,5 @@ overflow_mul-all-2 c = omega (arith, few (goal.at.overflow_mul-all-2 c).Else-slo
 
 pub returns : goal.returns
 returns c =
-    let a = c.args in
-    sym (lent-decide a.b a.slots a.lent1 a.lent2 c.if-days-gt-MOST_DAYS.false c.if-slots-gt-MOST_SLOTS.false)
+    let v = c.args.view in
+    sym (lent-decide v.book (length v.held.now) (length v.side1.now) (length v.side2.now) c.if-days-gt-MOST_DAYS.false c.if-slots-gt-MOST_SLOTS.false)

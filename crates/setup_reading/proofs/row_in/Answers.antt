@@ -31,36 +31,33 @@ module _ (c : After-read_fields) where
       c.read_fields.ensures
       ∙ ap (λ (p : ℕ). read_all start.args.bytes.now p row_layout) c.bits_for.ensures
 
-  at : (i : ℕ) → get_or c.read_fields.new.out i 0 ≡ get_or row i 0
-  at i = ap (λ (vs : List ℕ). get_or vs i 0) values
-
-  below : (i : ℕ) → i < 8 → get_or row i 0 < 2 ^ get_or row_layout i 0
-  below i h =
-      fit_at row_layout row (read-fit start.args.bytes.now (total (setup_layout_for start.args.days start.args.k)) row_layout) i h
+  -- each value fits its field's width
+  fits : (i : ℕ) → i < 8 → get_or c.read_fields.new.out i 0 < 2 ^ get_or row_layout i 0
+  fits i h = rw values (fit_at row_layout row (read-fit start.args.bytes.now (total (setup_layout_for start.args.days start.args.k)) row_layout) i h)
 
 pub overflow_cast-result : goal.overflow_cast-result
-overflow_cast-result c = omega (arith, at (goal.at.overflow_cast-result c).After-read_fields 0, below (goal.at.overflow_cast-result c).After-read_fields 0 (omega arith))
+overflow_cast-result c = omega (arith, fits (goal.at.overflow_cast-result c).After-read_fields 0 (omega arith))
 
 pub overflow_cast-result-2 : goal.overflow_cast-result-2
-overflow_cast-result-2 c = omega (arith, at (goal.at.overflow_cast-result-2 c).After-read_fields 1, below (goal.at.overflow_cast-result-2 c).After-read_fields 1 (omega arith))
+overflow_cast-result-2 c = omega (arith, fits (goal.at.overflow_cast-result-2 c).After-read_fields 1 (omega arith))
 
 pub overflow_cast-result-3 : goal.overflow_cast-result-3
-overflow_cast-result-3 c = omega (arith, at (goal.at.overflow_cast-result-3 c).After-read_fields 2, below (goal.at.overflow_cast-result-3 c).After-read_fields 2 (omega arith))
+overflow_cast-result-3 c = omega (arith, fits (goal.at.overflow_cast-result-3 c).After-read_fields 2 (omega arith))
 
 pub overflow_cast-result-4 : goal.overflow_cast-result-4
-overflow_cast-result-4 c = omega (arith, at (goal.at.overflow_cast-result-4 c).After-read_fields 3, below (goal.at.overflow_cast-result-4 c).After-read_fields 3 (omega arith))
+overflow_cast-result-4 c = omega (arith, fits (goal.at.overflow_cast-result-4 c).After-read_fields 3 (omega arith))
 
 pub overflow_cast-result-5 : goal.overflow_cast-result-5
-overflow_cast-result-5 c = omega (arith, at (goal.at.overflow_cast-result-5 c).After-read_fields 4, below (goal.at.overflow_cast-result-5 c).After-read_fields 4 (omega arith))
+overflow_cast-result-5 c = omega (arith, fits (goal.at.overflow_cast-result-5 c).After-read_fields 4 (omega arith))
 
 pub overflow_cast-result-6 : goal.overflow_cast-result-6
-overflow_cast-result-6 c = omega (arith, at (goal.at.overflow_cast-result-6 c).After-read_fields 5, below (goal.at.overflow_cast-result-6 c).After-read_fields 5 (omega arith))
+overflow_cast-result-6 c = omega (arith, fits (goal.at.overflow_cast-result-6 c).After-read_fields 5 (omega arith))
 
 pub overflow_cast-result-7 : goal.overflow_cast-result-7
-overflow_cast-result-7 c = omega (arith, at (goal.at.overflow_cast-result-7 c).After-read_fields 6, below (goal.at.overflow_cast-result-7 c).After-read_fields 6 (omega arith))
+overflow_cast-result-7 c = omega (arith, fits (goal.at.overflow_cast-result-7 c).After-read_fields 6 (omega arith))
 
 pub overflow_cast-result-8 : goal.overflow_cast-result-8
-overflow_cast-result-8 c = omega (arith, at (goal.at.overflow_cast-result-8 c).After-read_fields 7, below (goal.at.overflow_cast-result-8 c).After-read_fields 7 (omega arith))
+overflow_cast-result-8 c = omega (arith, fits (goal.at.overflow_cast-result-8 c).After-read_fields 7 (omega arith))
 
 pub returns : goal.returns
 unfolding row_in

@@ -1,7 +1,7 @@
--- The loop fills the 64 places: with the row where there is one, and with nothing past the rows.
+-- The loop fills the places of the rows: each has its row, and those past them are still all zero.
 use mathlib.Core.List.{List}
 use mathlib.Core.Path.{◌≡◌}
-use Prim.Native.Nat.{ℕ, ◌-◌, ◌≤◌}
+use Prim.Native.Nat.{ℕ}
 use Rattle.std.specs.Prelude.{if◌then◌else◌}
 use Rattle.words.specs.Tests.{◌<?◌}
 use Rattle.laws.proofs.Builds.{filled}
@@ -14,7 +14,4 @@ abbrev pub row_or_none : List ℕ → ℕ → ℕ → ℕ → Authorisation
 row_or_none s days count k = if k <? count then row_in s days k else no_authorisation
 
 abbrev pub invariant-loop-k : goal.invariant-loop-k
-invariant-loop-k l = (l.k ≤ 64) × (l.rows ≡ filled 64 (row_or_none l.bytes l.days l.count) no_authorisation l.k)
-
-abbrev pub decreases-loop-k : goal.decreases-loop-k
-decreases-loop-k l = 64 - l.k
+invariant-loop-k l = l.rows ≡ filled 64 (row_or_none l.bytes l.days l.count) no_authorisation l.k

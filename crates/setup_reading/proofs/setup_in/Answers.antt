@@ -29,23 +29,21 @@ module _ (c : After-read_fields) where
   unfolding read_into
   values = c.read_fields.ensures
 
-  at : (i : ℕ) → get_or c.read_fields.new.out i 0 ≡ get_or head i 0
-  at i = ap (λ (vs : List ℕ). get_or vs i 0) values
-
-  below : (i : ℕ) → i < 4 → get_or head i 0 < 2 ^ get_or head_layout i 0
-  below i h = fit_at head_layout head (read-fit bytes 0 head_layout) i h
+  -- each value fits its field's width
+  fits : (i : ℕ) → i < 4 → get_or c.read_fields.new.out i 0 < 2 ^ get_or head_layout i 0
+  fits i h = rw values (fit_at head_layout head (read-fit bytes 0 head_layout) i h)
 
 pub overflow_cast-days : goal.overflow_cast-days
-overflow_cast-days c = omega (arith, at (goal.at.overflow_cast-days c).After-read_fields 1, below (goal.at.overflow_cast-days c).After-read_fields 1 (omega arith))
+overflow_cast-days c = omega (arith, fits (goal.at.overflow_cast-days c).After-read_fields 1 (omega arith))
 
 pub overflow_cast-authorisations : goal.overflow_cast-authorisations
-overflow_cast-authorisations c = omega (arith, at (goal.at.overflow_cast-authorisations c).After-read_fields 3, below (goal.at.overflow_cast-authorisations c).After-read_fields 3 (omega arith))
+overflow_cast-authorisations c = omega (arith, fits (goal.at.overflow_cast-authorisations c).After-read_fields 3 (omega arith))
 
 pub overflow_cast-result : goal.overflow_cast-result
-overflow_cast-result c = omega (arith, at (goal.at.overflow_cast-result c).After-read_fields 0, below (goal.at.overflow_cast-result c).After-read_fields 0 (omega arith))
+overflow_cast-result c = omega (arith, fits (goal.at.overflow_cast-result c).After-read_fields 0 (omega arith))
 
 pub overflow_cast-result-2 : goal.overflow_cast-result-2
-overflow_cast-result-2 c = omega (arith, at (goal.at.overflow_cast-result-2 c).After-read_fields 2, below (goal.at.overflow_cast-result-2 c).After-read_fields 2 (omega arith))
+overflow_cast-result-2 c = omega (arith, fits (goal.at.overflow_cast-result-2 c).After-read_fields 2 (omega arith))
 
 pub returns : goal.returns
 unfolding setup_struct_in

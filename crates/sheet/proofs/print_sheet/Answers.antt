@@ -4,4 +4,4 @@ use Rattle.sheet_parts.proofs.KeptLaws.{kept-fits}
 use Rattle.sheet.proofs.print_sheet.Goals as goal
 
 pub print_rest-requires : goal.print_rest-requires
-print_rest-requires c = omega (arith, c.keep.ensures.1, c.keep.auto.input, kept-fits c.begin-begun.result.used c.args.have c.args.bytes.now)
+print_rest-requires c = omega (arith, c.keep.ensures.1, c.keep.auto.input, kept-fits c.in-Ok.front.length c.args.have c.args.bytes.now)

@@ -1,77 +1,39 @@
 -- The lines of the outcomes left, placed from where the loop stands, make the whole.
-use Rattle.std.proofs.Common.{◌≡◌, ℕ, ◌<◌, ltb, List, [], length, drop, refl, ◌∙◌, arith, drop_of_length-le, ltb-true}
-use Rattle.laws.proofs.Cases.{and_left, and_right}
+use Rattle.std.proofs.Common.{◌≡◌, ◌<◌, [], length, get_or, drop, refl, sym, ◌∙◌, arith, drop_of_length-le}
+use Rattle.std.proofs.lemmas.List.{length_push}
+use Rattle.std.proofs.lemmas.Slice.Zip.{zip_turn, zip_end}
+use Rattle.words.specs.Rules.{placeless}
 use Rattle.meaning.specs.SheetLines.{message_lines}
 use Rattle.sheet_lines.specs.Outcomes.{outcomes_of}
 use Rattle.sheet_lines.specs.Places.{all_placed, place_after_all}
-use Rattle.sheet_lines.proofs.Outcomes.{outcomes-count, outcome-at, outcomes-end}
+use Rattle.sheet_lines.proofs.Outcomes.{outcomes-count, outcome-at}
 use Rattle.sheet_lines.proofs.Sequences.{message-placed, message-after}
 use Rattle.sheet_lines.proofs.put_message_lines.Goals as goal
-use Rattle.sheet_lines.proofs.put_message_lines.Goals.{At-loop-k, In-loop-k, Start}
 
-pub loop-k-init : goal.loop-k-init
-loop-k-init c = (refl, refl, refl)
-
--- in a turn both buffers last
-module _ (c : In-loop-k) where
-  abbrev turn : At-loop-k
-  turn = (goal.at.In-loop-k c).At-loop-k
-
-  abbrev start : Start
-  start = (goal.at.At-loop-k turn).Start
-
-  abbrev answers : List ℕ
-  answers = start.args.answers.now
-
-  abbrev places : List ℕ
-  places = start.args.places.now
-
-  answer-left : turn.loop-k.k < length answers
-  answer-left = ltb-true turn.loop-k.k (length answers) (and_left (ltb turn.loop-k.k (length answers)) (ltb turn.loop-k.k (length places)) c.loop-k-test.true)
-
-  place-left : turn.loop-k.k < length places
-  place-left = ltb-true turn.loop-k.k (length places) (and_right (ltb turn.loop-k.k (length answers)) (ltb turn.loop-k.k (length places)) c.loop-k-test.true)
-
-pub bounds-answers-k : goal.bounds-answers-k
-bounds-answers-k c =
-    answer-left (goal.at.bounds-answers-k c).In-loop-k
-
-pub bounds-places-k : goal.bounds-places-k
-bounds-places-k c =
-    place-left (goal.at.bounds-places-k c).In-loop-k
-
-pub overflow_add-k : goal.overflow_add-k
-overflow_add-k c =
-    omega (arith, answer-left (goal.at.overflow_add-k c).In-loop-k)
-
-pub loop-k-smaller : goal.loop-k-smaller
-loop-k-smaller c =
-    omega (arith, answer-left (goal.at.loop-k-smaller c).In-loop-k)
-
-pub loop-k-preserved : goal.loop-k-preserved
-loop-k-preserved c =
+pub loop-answer-preserved : goal.loop-answer-preserved
+loop-answer-preserved c =
+    let answers = c.args.answers.now in
+    let places = c.args.places.now in
+    let told = outcomes_of answers places in
+    let l = c.loop-answer in
+    let k = length l.yielded in
     let w = c.put_message_line-next in
-    let l = c.loop-k in
-    let then = c.wrapping_add_u64-number in
-    let out = c.args.out.now in
-    let told = outcomes_of (answers (goal.at.loop-k-preserved c).In-loop-k) (places (goal.at.loop-k-preserved c).In-loop-k) in
-    let more : l.k < length told = omega (arith, outcomes-count (answers (goal.at.loop-k-preserved c).In-loop-k) (places (goal.at.loop-k-preserved c).In-loop-k), answer-left (goal.at.loop-k-preserved c).In-loop-k, place-left (goal.at.loop-k-preserved c).In-loop-k) in
-    let line = rw (← (outcome-at (answers (goal.at.loop-k-preserved c).In-loop-k) (places (goal.at.loop-k-preserved c).In-loop-k) l.k (answer-left (goal.at.loop-k-preserved c).In-loop-k) (place-left (goal.at.loop-k-preserved c).In-loop-k))) at w.ensures in
-    let e : length l.out ≡ length out = l.invariant.2 in (
-      message-placed told l.k l.number more l.out _ l.next w.result then.result line.0 line.1 then.ensures.value ∙ l.invariant.0,
-      message-after told l.k l.number more (length out) l.next w.result then.result (rw e at line.1) then.ensures.value ∙ l.invariant.1,
-      w.auto.out ∙ e,
-    )
-
-pub shape_of-out : goal.shape_of-out
-shape_of-out c =
-    c.loop-k.invariant.2
+    let turn = zip_turn answers places l.yielded c.into_iter-answer-iterator.result l.answer-iterator c.next.new.self c.next.result (cc) (cc) l.yielded_by (c.in-Some.answer, c.in-Some.place) c.in-Some.is c.next.ensures.steps in
+    let here : record { answer = c.in-Some.answer.now; place = c.in-Some.place.now } ≡ get_or told k (placeless 0) = (λ i. record { answer = turn.2 0 i; place = turn.3 0 i }) ∙ sym (outcome-at answers places k turn.0 turn.1) in
+    let more : k < length told = omega (arith, outcomes-count answers places, turn.0, turn.1) in
+    let line = rw here at w.ensures in
+    rw (length_push l.yielded (c.in-Some.answer, c.in-Some.place))
+    (record {
+      buffer = message-placed told k l.number more l.out _ l.next w.result _ line.0 line.1 refl ∙ l.invariant.buffer;
+      place = message-after told k l.number more (length c.args.out.now) l.next w.result _ (rw l.auto.out at line.1) refl ∙ l.invariant.place;
+    })
 
 pub returns : goal.returns
 unfolding message_lines all_placed place_after_all
 returns c =
-    let l = c.loop-k in
     let answers = c.args.answers.now in
     let places = c.args.places.now in
-    let e : drop l.k (outcomes_of answers places) ≡ [] = drop_of_length-le (outcomes_of answers places) {i = l.k} (outcomes-end answers places l.k c.loop-k-test.false) in
-    (rw e at l.invariant.0, rw e at l.invariant.1)
+    let l = c.loop-answer in
+    let end = zip_end answers places l.yielded c.into_iter-answer-iterator.result l.answer-iterator c.next.new.self c.next.result (cc) (cc) l.yielded_by c.in-None.is c.next.ensures.steps in
+    let e : drop (length l.yielded) (outcomes_of answers places) ≡ [] = drop_of_length-le (outcomes_of answers places) {i = length l.yielded} (omega (arith, end, outcomes-count answers places)) in
+    (rw e at l.invariant.buffer, rw e at l.invariant.place)

@@ -1,8 +1,8 @@
 -- Below zero the sign is written with the space; the digits are those of the size.
 use Rattle.std.proofs.Common.{◌≡◌, ℕ, ◌∷◌, length, nat_abs, ap, ◌∙◌, arith, to_z-of_z, w64, to_z, of_z}
 use Rattle.meaning.specs.Decimals.{decimal, signed}
-use Rattle.sheet_lines.proofs.Sizes.{signed_below, signed-not-below}
-use Rattle.sheet_lines.proofs.Texts.{written_then}
+use Rattle.decimals.proofs.Texts.{put_then}
+use Rattle.sheet_lines.proofs.Signs.{signed_below, signed-not-below}
 use Rattle.sheet_lines.proofs.put_signed_field.Goals as goal
 use Rattle.sheet_lines.proofs.put_signed_field.Goals.{Else-number-lt0, Start, Then-number-lt0}
 
@@ -18,17 +18,12 @@ not-below c =
 sized : (s : Start) {size : ℕ} → size ≡ nat_abs (to_z w64 (of_z w64 s.args.number)) → size ≡ nat_abs s.args.number
 sized s e = e ∙ ap nat_abs (to_z-of_z s.ranges.number)
 
-pub put_word-start-requires : goal.put_word-start-requires
-put_word-start-requires c =
-    omega (arith, ap length (below (goal.at.put_word-start-requires c).Then-number-lt0))
-
-pub put_decimal-requires : goal.put_decimal-requires
-put_decimal-requires c =
-    omega (arith, ap length (below (goal.at.put_decimal-requires c).Then-number-lt0), ap (λ (n : ℕ). length (decimal n)) (sized (goal.at.put_decimal-requires c).Start c.size.ensures))
-
 pub returns-then-number-lt0 : goal.returns-then-number-lt0
 returns-then-number-lt0 c =
-    rw (below (goal.at.returns-then-number-lt0 c).Then-number-lt0, ← sized (goal.at.returns-then-number-lt0 c).Start c.size.ensures) (written_then c.put_word-start.ensures c.put_decimal.ensures)
+    let at = goal.at.returns-then-number-lt0 c in
+    let same = sized at.Start c.size.ensures in
+    rw (below at.Then-number-lt0, ← same)
+    (put_then (omega (arith, c.requires, ap length (below at.Then-number-lt0), ap (λ (n : ℕ). length (decimal n)) same)) c.put_word-start.ensures c.put_decimal.ensures)
 
 pub put_field-requires : goal.put_field-requires
 put_field-requires c =

@@ -3,9 +3,11 @@ use Rattle.std.proofs.Common.{◌≡◌, ℕ, ◌+◌, ◌≤◌, true, List, []
 use Rattle.meaning.specs.Ascii.{ascii}
 use Rattle.meaning.specs.Decimals.{signed}
 use Rattle.meaning.specs.SheetLines.{field, beginning, newline, total_line}
-use Rattle.sheet_lines.specs.Places.{has_room}
+use Rattle.decimals.specs.Texts.{has_room}
+use Rattle.decimals.proofs.Texts.{written_then, written-put, room-free, room_after}
+use Rattle.sheet_lines.specs.Places.{most_bytes}
 use Rattle.sheet_lines.proofs.Lengths.{total-most}
-use Rattle.sheet_lines.proofs.Texts.{written_then, no_room, with-room, room-free, room_after, ended-length}
+use Rattle.sheet_lines.proofs.Texts.{no_room, with-room, ended-length}
 use Rattle.sheet_lines.proofs.put_total_line.Goals as goal
 use Rattle.sheet_lines.proofs.put_total_line.Goals.{Else-not-has_room, Start}
 
@@ -13,7 +15,7 @@ abbrev begin : Else-not-has_room → Start
 begin c = (goal.at.Else-not-has_room c).Start
 
 -- past the test there is room for the line
-roomy : (c : Else-not-has_room) → has_room (length (begin c).args.out.now) (begin c).args.at ≡ true
+roomy : (c : Else-not-has_room) → has_room (length (begin c).args.out.now) (begin c).args.at most_bytes ≡ true
 roomy c = sym c.has_room.ensures ∙ c.if-not-has_room.false
 
 -- the line's parts: what it begins with, and the volume as the machine hands it over
@@ -27,16 +29,17 @@ whole : (s : Start) → total_line s.args.account s.args.day s.args.period s.arg
 unfolding total_line
 whole s = rw (to_z-of_z s.ranges.kwh)
 
-free : (c : Else-not-has_room) → let s = begin c in s.args.at + (length (begun s) + (length (volume s) + 1)) ≤ length s.args.out.now
+free : (c : Else-not-has_room) → let s = begin c in s.args.at + length ((begun s ++ volume s) ++ newline) ≤ length s.args.out.now
 free c =
     let s = begin c in
     omega (
       arith,
-      room-free (length s.args.out.now) s.args.at (roomy c),
+      room-free (length s.args.out.now) s.args.at most_bytes (roomy c),
       rw (whole s) at (total-most s.args.account s.args.day s.args.period s.args.kwh s.ranges.account.fits s.ranges.day.fits s.ranges.period.fits s.ranges.kwh.sfits),
-      ended-length (begun s ++ volume s),
-      length-append (begun s) (volume s),
     )
+
+parts : (s : Start) → length ((begun s ++ volume s) ++ newline) ≡ length (begun s) + (length (volume s) + 1)
+parts s = omega (arith, ended-length (begun s ++ volume s), length-append (begun s) (volume s))
 
 pub returns-then-not-has_room : goal.returns-then-not-has_room
 returns-then-not-has_room c =
@@ -45,18 +48,17 @@ returns-then-not-has_room c =
 
 pub put_beginning-after_numbers-requires : goal.put_beginning-after_numbers-requires
 put_beginning-after_numbers-requires c =
-    omega (arith, free (goal.at.put_beginning-after_numbers-requires c).Else-not-has_room)
+    let tested = (goal.at.put_beginning-after_numbers-requires c).Else-not-has_room in
+    omega (arith, free tested, parts (begin tested))
 
 pub put_signed_field-after_kwh-requires : goal.put_signed_field-after_kwh-requires
 put_signed_field-after_kwh-requires c =
-    room_after (length (volume (begin (goal.at.put_signed_field-after_kwh-requires c).Else-not-has_room))) c.put_beginning-after_numbers.ensures (omega (arith, free (goal.at.put_signed_field-after_kwh-requires c).Else-not-has_room))
-
-pub put_word-requires : goal.put_word-requires
-put_word-requires c =
-    room_after 1 c.put_signed_field-after_kwh.ensures (room_after (length (volume (begin (goal.at.put_word-requires c).Else-not-has_room)) + 1) c.put_beginning-after_numbers.ensures (free (goal.at.put_word-requires c).Else-not-has_room))
+    let tested = (goal.at.put_signed_field-after_kwh-requires c).Else-not-has_room in
+    room_after (length (volume (begin tested))) c.put_beginning-after_numbers.ensures (omega (arith, free tested, parts (begin tested)))
 
 pub returns : goal.returns
 returns c =
-    let s = begin (goal.at.returns c).Else-not-has_room in
-    with-room s.args.out.now s.args.at (total_line s.args.account s.args.day s.args.period s.args.kwh) (roomy (goal.at.returns c).Else-not-has_room)
-    (rw (whole s) (written_then (written_then c.put_beginning-after_numbers.ensures c.put_signed_field-after_kwh.ensures) c.put_word.ensures))
+    let tested = (goal.at.returns c).Else-not-has_room in
+    let s = begin tested in
+    with-room s.args.out.now s.args.at (total_line s.args.account s.args.day s.args.period s.args.kwh) (roomy tested)
+    (rw (whole s) (written-put (free tested) (written_then c.put_beginning-after_numbers.ensures c.put_signed_field-after_kwh.ensures) c.put_word.ensures))

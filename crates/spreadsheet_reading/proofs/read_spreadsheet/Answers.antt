@@ -4,6 +4,6 @@ use Rattle.words.specs.Lists.{join}
 use Rattle.spreadsheet_reading.specs.Machine.{column_table, turn_table, rows}
 use Rattle.spreadsheet_reading.proofs.read_spreadsheet.Goals as goal
 
-pub read_by-requires : goal.read_by-requires
+pub invariant_of-tables : goal.invariant_of-tables
 unfolding column_table turn_table rows join
-read_by-requires c = (refl, refl)
+invariant_of-tables c = record { columns_are = refl; turns_are = refl }

@@ -1,63 +1,73 @@
 -- The lines left, written behind the header from where the loop stands, make the whole.
-use mathlib.Core.List.{List}
-use mathlib.Core.Path.{◌∙◌}
-use Prim.Native.Nat.{ℕ, ◌+◌, ◌≤◌}
-use native.Mathlib.Omega.{arith}
-use lib.ListN.{length, length-append}
+use Rattle.std.proofs.Common.{◌≡◌, ◌+◌, ◌<◌, ◌≤◌, List, ℕ, length, get_or, take, arith, sym, ap, ◌∙◌, length-append}
+use lib.Seq.{length-take-le, get_or-take}
 use Rattle.meaning.specs.Ascii.{ascii}
+use Rattle.decimals.specs.Texts.{Written}
 use Rattle.decimals.proofs.Texts.{put_written, written_then, room_after}
+use Rattle.messages.specs.Structs.{no_entry, no_entry_meant, entry_of}
 use Rattle.spreadsheets.specs.Structs.{entries_in}
 use Rattle.spreadsheets.specs.Writing.{written}
+use Rattle.spreadsheets.specs.declared.Spreadsheet.{Spreadsheet}
 use Rattle.spreadsheets.proofs.EntriesIn.{entries-count, entry_at}
 use Rattle.spreadsheet_writing.proofs.LinesLeft.{left-start, left-room, left-more, left_end}
 use Rattle.spreadsheet_writing.proofs.put_file.Invariants.{lines}
 use Rattle.spreadsheet_writing.proofs.put_file.Goals as goal
-use Rattle.spreadsheet_writing.proofs.put_file.Goals.{Start}
+use Rattle.spreadsheet_writing.proofs.put_file.Goals.{Start, After-put_word-at, In-loop-e}
 
 abbrev header : List ℕ
 header = ascii "period,mwh\n"
 
-free : (s : Start) → length header + length (lines s.args.x) ≤ length s.args.out.now
+free : (s : Start) → 0 + (length header + length (lines s.args.x)) ≤ length s.args.out.now
 unfolding written
 free s = omega (arith, s.requires.1, length-append header (lines s.args.x))
 
-pub loop-k-init : goal.loop-k-init
-loop-k-init c =
-    let start : Start = (goal.at.loop-k-init c).Start in (
-      omega arith,
-      room_after (length (lines c.args.x)) (put_written (omega (arith, free start)) c.put_word-at.ensures) (omega (arith, free start)),
-      left-start (entries_in c.args.x) _ _,
-    )
+begun : (c : After-put_word-at) → let w = c.put_word-at in Written c.args.out.now 0 header w.new.out w.result
+begun c = put_written (omega (arith, free (goal.at.After-put_word-at c).Start)) c.put_word-at.ensures
 
-pub bounds-x-k : goal.bounds-x-k
-bounds-x-k c =
-    omega (arith, c.requires.0)
+pub loop-e-init : goal.loop-e-init
+loop-e-init c =
+    let at = goal.at.loop-e-init c in
+    record {
+      room = room_after (length (lines c.args.x)) (begun at.After-put_word-at) (free at.Start);
+      left = left-start (entries_in c.args.x) _ _;
+    }
+
+-- the entry at hand is the next of those that are counted
+module _ (c : In-loop-e) where
+  abbrev x : Spreadsheet
+  x = c.args.x
+
+  counted : length (take x.count x.entries) ≡ x.count
+  counted = length-take-le x.count x.entries (omega arith)
+
+  more : c.loop-e.e-index < length (entries_in x)
+  more = omega (arith, c.loop-e-test.true, counted, entries-count x)
+
+  here : entry_of (get_or (take x.count x.entries) c.loop-e.e-index no_entry) ≡ get_or (entries_in x) c.loop-e.e-index no_entry_meant
+  here =
+      let inside : c.loop-e.e-index < x.count = omega (arith, c.loop-e-test.true, counted) in
+      ap entry_of (get_or-take x.count x.entries c.loop-e.e-index no_entry inside) ∙ sym (entry_at x c.loop-e.e-index inside)
 
 pub put_entry-at-requires : goal.put_entry-at-requires
 put_entry-at-requires c =
-    let x = c.args.x in
-    let l = c.loop-k in
-    rw (← entry_at x l.k (omega arith)) (left-room (entries_in x) _ _ l.k l.at l.out l.invariant.2 (omega (arith, entries-count x)) l.invariant.1)
+    let turn = (goal.at.put_entry-at-requires c).In-loop-e in
+    let l = c.loop-e in
+    rw (here turn) (left-room (entries_in c.args.x) _ _ l.e-index l.at l.out l.invariant.left (more turn) l.invariant.room)
 
-pub loop-k-preserved : goal.loop-k-preserved
-loop-k-preserved c =
-    let x = c.args.x in
-    let l = c.loop-k in (
-      omega arith,
-      l.invariant.1,
-      left-more (entries_in x) _ _ l.k l.at l.out l.invariant.2 (omega (arith, entries-count x))
-          (rw (← entry_at x l.k (omega arith)) at c.put_entry-at.ensures),
-    )
-
-pub shape_of-out : goal.shape_of-out
-shape_of-out c =
-    c.loop-k.invariant.2.kept ∙ c.put_word-at.auto.out
+pub loop-e-preserved : goal.loop-e-preserved
+loop-e-preserved c =
+    let turn = (goal.at.loop-e-preserved c).In-loop-e in
+    let l = c.loop-e in
+    record {
+      room = l.invariant.room;
+      left = left-more (entries_in c.args.x) _ _ l.e-index l.at l.out l.invariant.left (more turn) (rw (here turn) at c.put_entry-at.ensures);
+    }
 
 pub returns : goal.returns
 unfolding written
 returns c =
-    let start : Start = (goal.at.returns c).Start in
     let x = c.args.x in
-    let l = c.loop-k in
-    written_then (put_written (omega (arith, free start)) c.put_word-at.ensures)
-    (left_end (entries_in x) _ _ l.k l.at l.out l.invariant.2 (omega (arith, entries-count x)))
+    let l = c.loop-e in
+    let counted : length (take x.count x.entries) ≡ x.count = length-take-le x.count x.entries (omega arith) in
+    written_then (begun (goal.at.returns c).After-put_word-at)
+    (left_end (entries_in x) _ _ l.e-index l.at l.out l.invariant.left (omega (arith, entries-count x)))

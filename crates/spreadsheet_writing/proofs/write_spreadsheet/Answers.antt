@@ -6,8 +6,9 @@ use Prim.Native.Nat.{ℕ, ◌≤◌}
 use native.Mathlib.Nat.{zero-add}
 use native.Mathlib.Omega.{arith}
 use lib.ListN.{length, take}
-use lib.Seq.{sets}
-use Rattle.decimals.proofs.Texts.{put_written, written-front}
+use lib.Seq.{length-take-le}
+use Rattle.laws.proofs.PartStores.{front-sets}
+use Rattle.decimals.proofs.Texts.{written-front}
 use Rattle.spreadsheets.specs.Structs.{entries_in}
 use Rattle.spreadsheets.specs.Writing.{written}
 use Rattle.spreadsheets.proofs.EntriesIn.{entries-count}
@@ -58,10 +59,15 @@ slice_bounds-text-end c =
     let made : After-put_file-length = (goal.at.slice_bounds-text-end c).After-put_file-length in
     omega (arith, length-is made, fits made, c.put_file-length.auto.out)
 
-pub slice_bounds-put_word-end : goal.slice_bounds-put_word-end
-slice_bounds-put_word-end c =
-    let made : After-put_file-length = (goal.at.slice_bounds-put_word-end c).After-put_file-length in
+pub slice_bounds-copy_from_slice-end-3 : goal.slice_bounds-copy_from_slice-end-3
+slice_bounds-copy_from_slice-end-3 c =
+    let made : After-put_file-length = (goal.at.slice_bounds-copy_from_slice-end-3 c).After-put_file-length in
     length-is made ∙ sym (ap length (bytes-are made))
+
+pub copy_from_slice-requires : goal.copy_from_slice-requires
+copy_from_slice-requires c =
+    let made : After-put_file-length = (goal.at.copy_from_slice-requires c).After-put_file-length in
+    length-take-le c.put_file-length.result c.args.out.now c.if-out-length.false ∙ length-is made ∙ sym (ap length (bytes-are made))
 
 pub returns : goal.returns
 unfolding spreadsheet_written
@@ -70,7 +76,5 @@ returns c =
     let made : After-put_file-length = (goal.at.returns c).After-put_file-length in
     let out = c.args.out.now in
     let room : length (file made) ≤ length out = omega (arith, c.if-out-length.false, length-is made) in
-    rw (writing-done (entries_in c.args.x) out (good tested) room) (
-      rw (length-is made) refl,
-      (put_written (omega (arith, room, ap length (bytes-are made))) c.put_word.ensures).buffer ∙ ap (sets out 0) (bytes-are made),
-    )
+    rw (writing-done (entries_in c.args.x) out (good tested) room, length-is made, c.copy_from_slice.ensures.after, bytes-are made)
+    (refl, front-sets out (length (file made)) (file made) refl room)

@@ -1,23 +1,21 @@
--- A row of the count and of the array; else the all-zero row.
-use mathlib.Core.Path.{sym}
-use lib.Dec.{ltb}
-use borrow.Author.Tests.{ltb-true}
-use Rattle.laws.proofs.Cases.{and_left, and_right}
-use Rattle.book.proofs.StateLaws.{rows-length, row_inside, row-past}
+-- A row of the count is what the array has there, or the all-zero row past the array; past the count is the all-zero row.
+use mathlib.Core.Path.{sym, ap, ◌∙◌}
+use Prim.Native.Nat.{◌<◌}
+use native.Mathlib.Omega.{arith}
+use Rattle.std.specs.Prelude.{Option}
+use Rattle.std.specs.Option.{unwrap_or}
+use Rattle.setups.specs.declared.Authorisation.{Authorisation}
+use Rattle.setups.specs.Structs.{row_of, no_authorisation}
+use Rattle.book.proofs.StateLaws.{row_inside, row_none}
 use Rattle.book.proofs.state.row_of.Goals as goal
 
-pub bounds-s-k : goal.bounds-s-k
-bounds-s-k c =
-    let a = c.args in
-    ltb-true a.k 64 (and_right (ltb a.k a.b.setup.authorisations) (ltb a.k 64) c.if-k-s.true)
+pub returns-then-s-k : goal.returns-then-s-k
+returns-then-s-k c = sym (row_none c.args.b.setup c.args.k c.if-s-k.true)
 
-pub returns-then-k-s : goal.returns-then-k-s
-returns-then-k-s c =
-    let a = c.args in
-    let s = a.b.setup in
-    sym (row_inside s a.k (ltb-true a.k s.authorisations (and_left (ltb a.k s.authorisations) (ltb a.k 64) c.if-k-s.true)))
-
-pub returns-else-k-s : goal.returns-else-k-s
-returns-else-k-s c =
-    let a = c.args in
-    sym (row-past a.b.setup a.k (rows-length a.b c.well_formed.0) c.if-k-s.false)
+pub returns : goal.returns
+returns c =
+    let s = c.args.b.setup in
+    let k = c.args.k in
+    let own : k < s.authorisations = omega arith in
+    ap row_of (c.unwrap_or.ensures ∙ ap (λ (o : Option Authorisation). unwrap_or o no_authorisation) c.copied.ensures ∙ c.get.ensures.lookup.4 (omega arith) no_authorisation)
+    ∙ sym (row_inside s k own)

@@ -68,20 +68,20 @@ month_of-month-requires c = (rest-inside (goal.at.month_of-month-requires c).Aft
 pub before_month-before-requires : goal.before_month-before-requires
 before_month-before-requires c = month-inside (goal.at.before_month-before-requires c).After-month_of-month
 
-pub overflow_cast-date : goal.overflow_cast-date
-overflow_cast-date c = omega (arith, year-inside (goal.at.overflow_cast-date c).After-year_of-year)
+pub overflow_cast-result : goal.overflow_cast-result
+overflow_cast-result c = omega (arith, year-inside (goal.at.overflow_cast-result c).After-year_of-year)
 
-pub overflow_cast-date-2 : goal.overflow_cast-date-2
-overflow_cast-date-2 c = omega (arith, month-inside (goal.at.overflow_cast-date-2 c).After-month_of-month)
+pub overflow_cast-result-2 : goal.overflow_cast-result-2
+overflow_cast-result-2 c = omega (arith, month-inside (goal.at.overflow_cast-result-2 c).After-month_of-month)
 
-pub overflow_sub-date : goal.overflow_sub-date
-overflow_sub-date c = (day-inside (goal.at.overflow_sub-date c).After-before_month-before).0
+pub overflow_sub-result : goal.overflow_sub-result
+overflow_sub-result c = (day-inside (goal.at.overflow_sub-result c).After-before_month-before).0
 
-pub overflow_add-date : goal.overflow_add-date
-overflow_add-date c = omega (arith, (day-inside (goal.at.overflow_add-date c).After-before_month-before).1)
+pub overflow_add-result : goal.overflow_add-result
+overflow_add-result c = omega (arith, (day-inside (goal.at.overflow_add-result c).After-before_month-before).1)
 
-pub overflow_cast-date-3 : goal.overflow_cast-date-3
-overflow_cast-date-3 c = omega (arith, (day-inside (goal.at.overflow_cast-date-3 c).After-before_month-before).1)
+pub overflow_cast-result-3 : goal.overflow_cast-result-3
+overflow_cast-result-3 c = omega (arith, (day-inside (goal.at.overflow_cast-result-3 c).After-before_month-before).1)
 
 pub returns : goal.returns
 unfolding dated

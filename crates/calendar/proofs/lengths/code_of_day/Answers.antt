@@ -1,32 +1,31 @@
--- The code is that of the length, which is 27 where there is none.
-use mathlib.Core.Logic.{◌≢◌}
-use mathlib.Core.Path.{◌≡◌, sym, ap, ◌∙◌}
-use Prim.Native.Nat.{ℕ}
-use native.Mathlib.Omega.{arith}
+-- The code is that of the length, and there is none where there is no length.
+use Rattle.std.proofs.Common.{◌≡◌, ℕ, ap, ◌∙◌, rules}
+use Rattle.std.specs.Prelude.{Ok, Err}
+use Rattle.limits.specs.declared.refusals.Refusal.{Refusal}
+use Rattle.limits.proofs.AnswerNumbers.{never-done}
 use Rattle.laws.proofs.Cases.{on}
 use Rattle.calendar.specs.Calendar.{is_day, code_for, code_of}
 use Rattle.calendar.specs.Answers.{measured, coded}
+use Rattle.calendar.specs.Outcomes.{as_measured, as_coded}
 use Rattle.calendar.specs.declared.Measured.{Measured}
 use Rattle.calendar.proofs.lengths.code_of_day.Goals as goal
 
-refused : (n : ℕ) (m : Measured) → m ≡ measured n → m.answer ≢ 0 → record { answer = m.answer; code = 0 } ≡ coded n
+refused : (n : ℕ) (r : Refusal) → as_measured (Err r) ≡ measured n → as_coded (Err r) ≡ coded n
 unfolding measured coded
-refused n m e r =
+refused n r e =
     on (is_day n)
-    (λ t. absurd (r (ap (λ (x : Measured). x.answer) e ∙ rw t)))
-    (λ t. ap (λ (x : Measured). record { answer = x.answer; code = 0 }) e ∙ rw t)
+    (λ t. never-done r (ap (λ (m : Measured). m.answer) e ∙ rw t))
+    (λ t. rw t (ap (λ (m : Measured). record { answer = m.answer; code = 0 }) e ∙ rw t))
 
-given : (n : ℕ) (m : Measured) → m ≡ measured n → m.answer ≡ 0 → {code : ℕ} → code ≡ code_for m.periods → record { answer = 0; code = code } ≡ coded n
+given : (n periods : ℕ) → as_measured (Ok periods) ≡ measured n → as_coded (Ok (code_for periods)) ≡ coded n
 unfolding measured coded code_of
-given n m e z {code} f =
+given n periods e =
     on (is_day n)
-    (λ t. rw t (ap (λ (k : ℕ). record { answer = 0; code = k }) (f ∙ ap (λ (x : Measured). code_for x.periods) e ∙ rw t)))
-    (λ t. let k : ◌≡◌ {A = ℕ} 0 27 = sym z ∙ ap (λ (x : Measured). x.answer) e ∙ rw t in absurd (omega arith))
+    (λ t. rw t (ap (λ (m : Measured). record { answer = m.answer; code = code_for m.periods }) e ∙ rw t))
+    (λ t. let k : ◌≡◌ {A = ℕ} 0 27 = ap (λ (m : Measured). m.answer) e ∙ rw t in absurd (cc))
 
-pub returns-then-length-ne0 : goal.returns-then-length-ne0
-returns-then-length-ne0 c =
-    refused c.args.day c.day_length-length.result c.day_length-length.ensures c.if-length-ne0.true
+pub returns-in_err-day_length : goal.returns-in_err-day_length
+returns-in_err-day_length c = let e = refused c.args.day c.in_err-day_length.field-0.0 c.in_err-day_length.ensures in search (rules, e)
 
 pub returns : goal.returns
-returns c =
-    given c.args.day c.day_length-length.result c.day_length-length.ensures c.if-length-ne0.false c.code_for.ensures
+returns c = rw c.code_for.ensures (given c.args.day c.in_ok-day_length.field-0 c.in_ok-day_length.ensures)

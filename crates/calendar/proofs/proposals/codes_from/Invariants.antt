@@ -1,6 +1,5 @@
 -- The loop fills the eight places: with the code where there is a day, and with nothing past the days.
-use mathlib.Core.Path.{◌≡◌}
-use Prim.Native.Nat.{ℕ, ◌+◌, ◌-◌, ◌≤◌}
+use Rattle.std.proofs.Common.{◌≡◌, ℕ, ◌+◌}
 use Rattle.std.specs.Prelude.{if◌then◌else◌}
 use Rattle.words.specs.Tests.{◌<?◌}
 use Rattle.laws.proofs.Builds.{filled}
@@ -11,7 +10,4 @@ abbrev pub code_at : ℕ → ℕ → ℕ → ℕ
 code_at first days d = if d <? days then code_of (first + d) else 0
 
 abbrev pub invariant-loop-d : goal.invariant-loop-d
-invariant-loop-d l = (l.d ≤ 8) × (l.codes ≡ filled 8 (code_at l.first l.days) 0 l.d)
-
-abbrev pub decreases-loop-d : goal.decreases-loop-d
-decreases-loop-d l = 8 - l.d
+invariant-loop-d l = l.code-items ≡ filled 8 (code_at l.first l.days) 0 l.d

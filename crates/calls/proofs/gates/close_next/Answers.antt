@@ -18,9 +18,9 @@ returns-then-every_gate_closed c =
     let b = c.args.b in
     ap (gated b) (sym (next-late b (sym (every-closed (goal.at.returns-then-every_gate_closed c).After-every_gate_closed) ∙ c.if-every_gate_closed.true)))
 
-pub overflow_add-after : goal.overflow_add-after
-overflow_add-after c =
-    let few = few-gates c.args.b (days-few c.args.b c.well_formed.0) (sym (every-closed (goal.at.overflow_add-after c).After-every_gate_closed) ∙ c.if-every_gate_closed.false) in
+pub overflow_add-result : goal.overflow_add-result
+overflow_add-result c =
+    let few = few-gates c.args.b (days-few c.args.b c.well_formed.0) (sym (every-closed (goal.at.overflow_add-result c).After-every_gate_closed) ∙ c.if-every_gate_closed.false) in
     omega arith
 
 pub returns : goal.returns

@@ -5,13 +5,6 @@ use Rattle.calls.proofs.notifications.notification_answer.Goals as goal
 
 pub returns-then-not-is_sound : goal.returns-then-not-is_sound
 returns-then-not-is_sound c =
-    let a = c.args in
-    c.refused.ensures
-    ∙ (unsound-notifies a.b a.held.now a.side1.now a.side2.now a.n (sym c.is_sound.ensures ∙ c.if-not-is_sound.true)).0
-
-pub judge_notification-requires : goal.judge_notification-requires
-judge_notification-requires c =
-    (sym c.is_sound.ensures ∙ c.if-not-is_sound.false, c.row_of-row.ensures)
-
-pub returns : goal.returns
-returns c = c.judge_notification.ensures
+    let a = c.args.view in
+    rw c.into.ensures
+    (unsound-notifies a.book a.held.now a.side1.now a.side2.now c.args.n (sym c.is_sound.ensures ∙ c.if-not-is_sound.true)).0

@@ -6,12 +6,5 @@ use Rattle.calls.proofs.notifications.notify.Goals as goal
 pub returns-then-not-is_sound : goal.returns-then-not-is_sound
 returns-then-not-is_sound c =
     let a = c.args in
-    let u = unsound-notifies a.b a.held.now a.side1.now a.side2.now a.n (sym c.is_sound.ensures ∙ c.if-not-is_sound.true) in
-    (c.refused.ensures ∙ u.0, u.1, u.2, u.3)
-
-pub do_notification-requires : goal.do_notification-requires
-do_notification-requires c =
-    sym c.is_sound.ensures ∙ c.if-not-is_sound.false
-
-pub returns : goal.returns
-returns c = c.do_notification.ensures
+    rw c.into.ensures
+    (unsound-notifies a.b a.held.now a.side1.now a.side2.now a.n (sym c.is_sound.ensures ∙ c.if-not-is_sound.true))

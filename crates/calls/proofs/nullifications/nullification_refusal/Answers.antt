@@ -6,12 +6,12 @@ use Rattle.calls.proofs.nullifications.nullification_refusal.Goals as goal
 
 pub returns-then-not-is_sound : goal.returns-then-not-is_sound
 returns-then-not-is_sound c =
-    let a = c.args in
-    (unsound-nullifies a.b a.held.now a.side1.now a.side2.now a.x (sym c.is_sound.ensures ∙ c.if-not-is_sound.true)).0
-    ∙ sym (nullification-answer a.b a.held.now a.side1.now a.side2.now a.x)
+    let a = c.args.view in
+    (unsound-nullifies a.book a.held.now a.side1.now a.side2.now c.args.x (sym c.is_sound.ensures ∙ c.if-not-is_sound.true)).0
+    ∙ sym (nullification-answer a.book a.held.now a.side1.now a.side2.now c.args.x)
 
 pub returns : goal.returns
 returns c =
-    let a = c.args in
+    let a = c.args.view in
     c.judge_nullification.ensures
-    ∙ sym (nullification-rest a.b a.held.now a.side1.now a.side2.now a.x (sym c.is_sound.ensures ∙ c.if-not-is_sound.false))
+    ∙ sym (nullification-rest a.book a.held.now a.side1.now a.side2.now c.args.x (sym c.is_sound.ensures ∙ c.if-not-is_sound.false))

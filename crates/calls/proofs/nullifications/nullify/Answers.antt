@@ -7,10 +7,3 @@ pub returns-then-not-is_sound : goal.returns-then-not-is_sound
 returns-then-not-is_sound c =
     let a = c.args in
     unsound-nullifies a.b a.held.now a.side1.now a.side2.now a.x (sym c.is_sound.ensures ∙ c.if-not-is_sound.true)
-
-pub do_nullification-requires : goal.do_nullification-requires
-do_nullification-requires c =
-    sym c.is_sound.ensures ∙ c.if-not-is_sound.false
-
-pub returns : goal.returns
-returns c = c.do_nullification.ensures

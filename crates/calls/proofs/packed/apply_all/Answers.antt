@@ -13,10 +13,6 @@ returns-then-not-is_sound c =
     let u = run-unsound whole (min (length a.answers.now) (length a.places.now)) a.bytes.now (sym c.is_sound.ensures ∙ c.if-not-is_sound.true) in
     rw (u.0, u.1) (refl, refl, refl, refl, refl, refl)
 
-pub run_known-requires : goal.run_known-requires
-run_known-requires c =
-    sym c.is_sound.ensures ∙ c.if-not-is_sound.false
-
 pub returns : goal.returns
 returns c =
     let a = c.args in

@@ -6,6 +6,7 @@ use native.Mathlib.Nat.{div-one}
 use native.Mathlib.Omega.{arith}
 use lib.ListN.{length, set}
 use lib.Pow.{shr-shr}
+use borrow.Author.Rules.{rules}
 use Rattle.words.specs.Fields.{set_field}
 use Rattle.laws.proofs.Bits.{Bytes}
 use Rattle.laws.proofs.Fields.{set-field-length}
@@ -29,24 +30,21 @@ bytes-done s f n count v e =
 
 pub loop-n-init : goal.loop-n-init
 unfolding set_field
-loop-n-init c = (omega arith, refl)
+loop-n-init c = refl
 
 pub loop-n-preserved : goal.loop-n-preserved
 loop-n-preserved c =
     let a = c.args in
     let l = c.loop-n in
-    let bytes : Bytes a.dst.now = λ i h. omega (arith, c.slice_known-1.given i) in (
-      omega arith,
-      c.put_byte.ensures
-          ∙ ap₂ (λ (d : List ℕ) (x : ℕ). set d (a.first + l.n) x) l.invariant.1 c.cut.ensures
-          ∙ byte_more a.dst.now a.first l.n a.count a.word bytes (omega arith),
-    )
+    c.put_byte.ensures
+    ∙ ap₂ (λ (d : List ℕ) (x : ℕ). set d (a.first + l.n) x) l.invariant c.cut.ensures
+    ∙ byte_more a.dst.now a.first l.n a.count a.word (λ i h. search rules) (omega arith)
 
 pub shape_of-dst : goal.shape_of-dst
-shape_of-dst c = ap length c.loop-n.invariant.1 ∙ set-field-length _ _ _ _
+shape_of-dst c = ap length c.loop-n.invariant ∙ set-field-length _ _ _ _
 
 pub returns : goal.returns
 returns c =
     let a = c.args in
     let l = c.loop-n in
-    l.invariant.1 ∙ bytes-done a.dst.now a.first l.n a.count a.word (omega arith)
+    l.invariant ∙ bytes-done a.dst.now a.first l.n a.count a.word (omega arith)

@@ -1,26 +1,17 @@
--- No slot before k has the entry.
-use mathlib.Core.Path.{sym}
-use native.Mathlib.Omega.{arith}
-use Rattle.laws.proofs.Cases.{by-eq}
-use Rattle.laws.proofs.Lists.{find-is}
+-- The place that `position` gives is the first one of the entry, and the number of slots where it gives none.
+use mathlib.Core.Path.{◌≡◌}
+use Prim.Native.Nat.{ℕ}
+use lib.Dec.{eqb}
+use Rattle.std.proofs.Common.{rules, tests}
+use Rattle.std.specs.List.{position}
+use Rattle.std.proofs.lemmas.Iterator.{YieldsList-from_slice}
+use Rattle.std.proofs.lemmas.Iterator.Search.{position_from_yields_List}
+use Rattle.laws.proofs.Searches.{position-find}
 use Rattle.ledger.proofs.slots.slot_with.Goals as goal
-
-pub loop-k-init : goal.loop-k-init
-loop-k-init c = (omega arith, λ j h. absurd (omega arith))
-
-pub returns-then-held-k : goal.returns-then-held-k
-returns-then-held-k c =
-    let a = c.args in
-    let l = c.loop-k in
-    sym (find-is a.entry a.held.now l.k l.invariant.0 l.invariant.1 (λ h. c.if-held-k.true))
-
-pub loop-k-preserved : goal.loop-k-preserved
-loop-k-preserved c =
-    let l = c.loop-k in
-    (omega arith, λ j h. by-eq j l.k (λ e. rw e c.if-held-k.false) (λ n. l.invariant.1 j (omega arith)))
 
 pub returns : goal.returns
 returns c =
     let a = c.args in
-    let l = c.loop-k in
-    sym (find-is a.entry a.held.now l.k l.invariant.0 l.invariant.1 (λ h. absurd (omega arith)))
+    let found : c.position.result ≡ position (λ (x : ℕ). eqb x a.entry) a.held.now =
+    position_from_yields_List (λ (x : ℕ). eqb x a.entry) _ _ c.position.result c.position.ensures.ran (YieldsList-from_slice a.held.now cc) (λ x b q k. search (rules, tests)) in
+    position-find a.entry a.held.now c.position.result c.unwrap_or.result found c.unwrap_or.ensures

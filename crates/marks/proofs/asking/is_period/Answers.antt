@@ -13,18 +13,18 @@ has c =
     let a = c.args in
     c.has_day.ensures ∙ ap (λ (t : Time). has_day t a.day) (clock-time a.b c.clock_of-c.ensures)
 
-pub returns-then-not-has_day : goal.returns-then-not-has_day
-returns-then-not-has_day c =
-    let a = c.args in
-    sym (period-none a.b a.day a.period (sym (has (goal.at.returns-then-not-has_day c).After-has_day) ∙ c.if-not-has_day.true))
+pub invariant_of-place : goal.invariant_of-place
+invariant_of-place c = record { of_book = sym (has (goal.at.invariant_of-place c).After-has_day) ∙ c.if-has_day.true }
 
-pub day_of-requires : goal.day_of-requires
-day_of-requires c = sym (has (goal.at.day_of-requires c).After-has_day) ∙ c.if-not-has_day.false
-
-pub returns : goal.returns
-returns c =
+pub returns-then-has_day : goal.returns-then-has_day
+returns-then-has_day c =
     let a = c.args in
     c.is_period_at.ensures
-    ∙ ap (λ (t : Time). is_period_at t.codes c.day_of.result a.period) (clock-time a.b c.clock_of-c.ensures)
-    ∙ ap (λ (d : ℕ). is_period_at (time_in a.b).codes d a.period) c.day_of.ensures
-    ∙ sym (period-there a.b a.day a.period (sym (has (goal.at.returns c).After-has_day) ∙ c.if-not-has_day.false))
+    ∙ ap (λ (t : Time). is_period_at t.codes c.place.result a.period) (clock-time a.b c.clock_of-c.ensures)
+    ∙ ap (λ (d : ℕ). is_period_at (time_in a.b).codes d a.period) c.place.ensures
+    ∙ sym (period-there a.b a.day a.period (sym (has (goal.at.returns-then-has_day c).After-has_day) ∙ c.if-has_day.true))
+
+pub returns-else-has_day : goal.returns-else-has_day
+returns-else-has_day c =
+    let a = c.args in
+    c.if-has_day.false ∙ sym (period-none a.b a.day a.period (sym (has (goal.at.returns-else-has_day c).After-has_day) ∙ c.if-has_day.false))

@@ -1,4 +1,8 @@
 -- A refusal leaves the three buffers; otherwise the bars written are the marks of the day's periods.
+use borrow.Author.Rules.{rules}
+use Rattle.std.specs.Prelude.{Err}
+use Rattle.limits.specs.Refusals.{number_of, answer_of}
+use Rattle.limits.proofs.AnswerNumbers.{never-done}
 use mathlib.Core.Bool.{Bool, true, false, ◌||◌}
 use mathlib.Core.List.{List}
 use mathlib.Core.Logic.{◌≢◌}
@@ -25,14 +29,14 @@ use Rattle.marks.proofs.MarkLaws.{Asks, asks}
 use Rattle.marks.proofs.MarkPlaces.{day-marks-at}
 use Rattle.marks.proofs.DayMarkLaws.{day_answer, periods_on, no_room, day-earlier, day-none, day-no-room, day-done, rooms, day-refused, day-written}
 use Rattle.marks.proofs.periods.day_marks.Goals as goal
-use Rattle.marks.proofs.periods.day_marks.Goals.{After-asking_refusal-refusal, After-has_day, After-index_of-start, After-periods_on-periods, After-row_of-row, Else-cases-periods, Else-not-has_day, Else-refusal-ne0, Start}
+use Rattle.marks.proofs.periods.day_marks.Goals.{After-has_day, After-index_of-start, After-periods-periods, After-row_of-row, Else-cases-periods, Else-not-has_day, In_ok-asking_refusal, Start}
 
 module _ (s : Start) where
   abbrev identifier : ℕ
   identifier = identifier_of s.args.originator s.args.reference
 
   abbrev whole : Books.Book contracts
-  whole = before s.args.b s.args.held.now s.args.side1.now s.args.side2.now identifier s.args.day
+  whole = before s.args.view.book s.args.view.held.now s.args.view.side1.now s.args.view.side2.now identifier s.args.day
 
   abbrev asking : ℕ
   asking = answer (asking_rules whole identifier s.args.account)
@@ -41,7 +45,7 @@ module _ (s : Start) where
   the_answer = day_answer whole identifier s.args.account s.args.day (length s.args.cases.now) (length s.args.firsts.now) (length s.args.seconds.now)
 
   abbrev the_start : ℕ
-  the_start = start s.args.b s.args.held.now s.args.side1.now s.args.side2.now identifier s.args.day
+  the_start = start s.args.view.book s.args.view.held.now s.args.view.side1.now s.args.view.side2.now identifier s.args.day
 
   -- a buffer after the question, with an answer
   abbrev after : {A : Type 0} → (Bar → A) → ℕ → List A → List A
@@ -69,37 +73,34 @@ module _ (s : Start) where
 
 -- ---- the tests
 
-refusal_is : (c : After-asking_refusal-refusal) → c.asking_refusal-refusal.result ≡ asking (goal.at.After-asking_refusal-refusal c).Start
-refusal_is c = c.asking_refusal-refusal.ensures
+allowed : (c : In_ok-asking_refusal) → asking (goal.at.In_ok-asking_refusal c).Start ≡ 0
+allowed c = sym c.in_ok-asking_refusal.ensures
 
-allowed : (c : Else-refusal-ne0) → asking (goal.at.Else-refusal-ne0 c).Start ≡ 0
-allowed c = sym (refusal_is (goal.at.Else-refusal-ne0 c).After-asking_refusal-refusal) ∙ c.if-refusal-ne0.false
-
-has : (c : After-has_day) → let a = c.args in c.has_day.result ≡ has_day (time_in a.b) a.day
+has : (c : After-has_day) → let a = c.args in c.has_day.result ≡ has_day (time_in a.view.book) a.day
 has c =
     let a = c.args in
-    c.has_day.ensures ∙ ap (λ (t : Time). has_day t a.day) (clock-time a.b c.clock_of.ensures)
+    c.has_day.ensures ∙ ap (λ (t : Time). has_day t a.day) (clock-time a.view.book c.clock_of.ensures)
 
-there : (c : Else-not-has_day) → let a = c.args in has_day (time_in a.b) a.day ≡ true
+there : (c : Else-not-has_day) → let a = c.args in has_day (time_in a.view.book) a.day ≡ true
 there c = sym (has (goal.at.Else-not-has_day c).After-has_day) ∙ c.if-not-has_day.false
 
-room : (c : After-periods_on-periods) → shorter (goal.at.After-periods_on-periods c).Start c.periods_on-periods.result ≡ too_short (goal.at.After-periods_on-periods c).Start
+room : (c : After-periods-periods) → shorter (goal.at.After-periods-periods c).Start c.periods-periods.result ≡ too_short (goal.at.After-periods-periods c).Start
 room c =
-    ap (shorter (goal.at.After-periods_on-periods c).Start) c.periods_on-periods.ensures
+    ap (shorter (goal.at.After-periods-periods c).Start) c.periods-periods.ensures
 
 -- past the refusals
 module _ (c : Else-cases-periods) where
-  abbrev counted : After-periods_on-periods
-  counted = (goal.at.Else-cases-periods c).After-periods_on-periods
+  abbrev counted : After-periods-periods
+  counted = (goal.at.Else-cases-periods c).After-periods-periods
 
-  abbrev asked : Else-refusal-ne0
-  asked = (goal.at.After-periods_on-periods counted).Else-refusal-ne0
+  abbrev asked : In_ok-asking_refusal
+  asked = (goal.at.After-periods-periods counted).In_ok-asking_refusal
 
   abbrev from : Start
-  from = (goal.at.Else-refusal-ne0 asked).Start
+  from = (goal.at.In_ok-asking_refusal asked).Start
 
-  of-book : has_day (time_in from.args.b) from.args.day ≡ true
-  of-book = there (goal.at.After-periods_on-periods counted).Else-not-has_day
+  of-book : has_day (time_in from.args.view.book) from.args.day ≡ true
+  of-book = there (goal.at.After-periods-periods counted).Else-not-has_day
 
   enough : too_short from ≡ false
   enough = sym (room counted) ∙ c.if-cases-periods.false
@@ -127,56 +128,61 @@ module _ (c : After-row_of-row) where
   first = from passed
 
   abbrev bars : ℕ → Bar
-  bars = bar_from (row_of c.row_of-row.result) first.args.account first.args.side1.now first.args.side2.now begun.index_of-start.result
+  bars = bar_from (row_of c.row_of-row.result) first.args.account first.args.view.side1.now first.args.view.side2.now begun.index_of-start.result
 
   bars-are : (p : ℕ) → p < periods_on (whole first) (identifier first) first.args.account first.args.day
       → bars p ≡ bar_for (mark (whole first) (identifier first) first.args.account first.args.day (suc p))
   bars-are p l =
       let a = first.args in
-      ap (λ (row : Authorisation). bar_from row a.account a.side1.now a.side2.now begun.index_of-start.result p) c.row_of-row.ensures
-      ∙ day-marks-at a.b a.held.now a.side1.now a.side2.now a.originator a.reference a.account a.day (omega (arith, first.ranges.reference))
+      ap (λ (row : Authorisation). bar_from row a.account a.view.side1.now a.view.side2.now begun.index_of-start.result p) c.row_of-row.ensures
+      ∙ day-marks-at a.view.book a.view.held.now a.view.side1.now a.view.side2.now a.originator a.reference a.account a.day (omega (arith, first.ranges.reference))
       begun.index_of-start.result (begins begun) (allowed (asked passed)) (of-book passed) p l
 
   written : {A : Type 0} (value : Bar → A) (buffer : List A) (d : A)
-      → on_front (counted passed).periods_on-periods.result (λ (p : ℕ) (old : A). value (bars p)) buffer ≡ after first value (the_answer first) buffer
+      → on_front (counted passed).periods-periods.result (λ (p : ℕ) (old : A). value (bars p)) buffer ≡ after first value (the_answer first) buffer
   written {A} value buffer d =
-      ap (λ (n : ℕ). on_front n (λ (p : ℕ) (old : A). value (bars p)) buffer) (counted passed).periods_on-periods.ensures
+      ap (λ (n : ℕ). on_front n (λ (p : ℕ) (old : A). value (bars p)) buffer) (counted passed).periods-periods.ensures
       ∙ day-written value (whole first) (identifier first) first.args.account first.args.day buffer bars d bars-are
       ∙ ap (λ (n : ℕ). after first value n buffer) (done passed)
 
-pub returns-then-refusal-ne0 : goal.returns-then-refusal-ne0
-returns-then-refusal-ne0 c =
+pub returns-in_err-asking_refusal : goal.returns-in_err-asking_refusal
+returns-in_err-asking_refusal c =
     let a = c.args in
-    stopped (goal.at.returns-then-refusal-ne0 c).Start c.asking_refusal-refusal.result c.if-refusal-ne0.true
-    (refusal_is (goal.at.returns-then-refusal-ne0 c).After-asking_refusal-refusal ∙ day-earlier (whole (goal.at.returns-then-refusal-ne0 c).Start) (identifier (goal.at.returns-then-refusal-ne0 c).Start) a.account a.day (length a.cases.now) (length a.firsts.now) (length a.seconds.now) (λ z. c.if-refusal-ne0.true (refusal_is (goal.at.returns-then-refusal-ne0 c).After-asking_refusal-refusal ∙ z)))
+    let at = (goal.at.returns-in_err-asking_refusal c).Start in
+    let refusal = c.in_err-asking_refusal.field-0.0 in
+    let same : c.from_residual.result ≡ Err refusal = search rules in
+    let asks : number_of refusal ≡ asking at = c.in_err-asking_refusal.ensures in
+    let earlier = day-earlier (whole at) (identifier at) a.account a.day (length a.cases.now) (length a.firsts.now) (length a.seconds.now) (λ z. never-done refusal (asks ∙ z)) in
+    let kept = stopped at (number_of refusal) (λ q. never-done refusal q) (asks ∙ earlier) in
+    (ap answer_of same ∙ kept.0, kept.1, kept.2, kept.3)
 
 pub returns-then-not-has_day : goal.returns-then-not-has_day
 returns-then-not-has_day c =
     let a = c.args in
     stopped (goal.at.returns-then-not-has_day c).Start 16 (λ z. omega arith)
-    (day-none (whole (goal.at.returns-then-not-has_day c).Start) (identifier (goal.at.returns-then-not-has_day c).Start) a.account a.day (length a.cases.now) (length a.firsts.now) (length a.seconds.now) (allowed (goal.at.returns-then-not-has_day c).Else-refusal-ne0) (sym (has (goal.at.returns-then-not-has_day c).After-has_day) ∙ c.if-not-has_day.true))
+    (day-none (whole (goal.at.returns-then-not-has_day c).Start) (identifier (goal.at.returns-then-not-has_day c).Start) a.account a.day (length a.cases.now) (length a.firsts.now) (length a.seconds.now) (allowed (goal.at.returns-then-not-has_day c).In_ok-asking_refusal) (sym (has (goal.at.returns-then-not-has_day c).After-has_day) ∙ c.if-not-has_day.true))
 
-pub periods_on-periods-requires : goal.periods_on-periods-requires
-periods_on-periods-requires c = there (goal.at.periods_on-periods-requires c).Else-not-has_day
+pub invariant_of-asked : goal.invariant_of-asked
+invariant_of-asked c = record { of_book = there (goal.at.invariant_of-asked c).Else-not-has_day }
 
 pub returns-then-cases-periods : goal.returns-then-cases-periods
 returns-then-cases-periods c =
     let a = c.args in
     stopped (goal.at.returns-then-cases-periods c).Start 24 (λ z. omega arith)
-    (day-no-room (whole (goal.at.returns-then-cases-periods c).Start) (identifier (goal.at.returns-then-cases-periods c).Start) a.account a.day (length a.cases.now) (length a.firsts.now) (length a.seconds.now) (allowed (goal.at.returns-then-cases-periods c).Else-refusal-ne0) (there (goal.at.returns-then-cases-periods c).Else-not-has_day) (sym (room (goal.at.returns-then-cases-periods c).After-periods_on-periods) ∙ c.if-cases-periods.true))
+    (day-no-room (whole (goal.at.returns-then-cases-periods c).Start) (identifier (goal.at.returns-then-cases-periods c).Start) a.account a.day (length a.cases.now) (length a.firsts.now) (length a.seconds.now) (allowed (goal.at.returns-then-cases-periods c).In_ok-asking_refusal) (there (goal.at.returns-then-cases-periods c).Else-not-has_day) (sym (room (goal.at.returns-then-cases-periods c).After-periods-periods) ∙ c.if-cases-periods.true))
 
 pub index_of-start-requires : goal.index_of-start-requires
 index_of-start-requires c =
     let a = (from (goal.at.index_of-start-requires c).Else-cases-periods).args in
-    let few = slot-few a.b a.held.now a.side1.now a.side2.now (identifier (from (goal.at.index_of-start-requires c).Else-cases-periods)) a.day (shown (goal.at.index_of-start-requires c).Else-cases-periods).is-sound (shown (goal.at.index_of-start-requires c).Else-cases-periods).is-held in
-    (of-book (goal.at.index_of-start-requires c).Else-cases-periods, rw c.slot_of-slot.ensures few, omega arith)
+    let few = slot-few a.view.book a.view.held.now a.view.side1.now a.view.side2.now (identifier (from (goal.at.index_of-start-requires c).Else-cases-periods)) a.day (shown (goal.at.index_of-start-requires c).Else-cases-periods).is-sound (shown (goal.at.index_of-start-requires c).Else-cases-periods).is-held in
+    (rw c.slot_of-slot.ensures few, omega arith)
 
 pub write_marks-requires : goal.write_marks-requires
 write_marks-requires c =
     let p = passed (goal.at.write_marks-requires c).After-row_of-row in
     let a = (from p).args in
-    let n = (counted p).periods_on-periods.ensures in
-    let few = row-few a.b a.held.now a.side1.now a.side2.now (identifier (from p)) a.day (shown p).is-sound (shown p).is-held (of-book p) in
+    let n = (counted p).periods-periods.ensures in
+    let few = row-few a.view.book a.view.held.now a.view.side1.now a.view.side2.now (identifier (from p)) a.day (shown p).is-sound (shown p).is-held (of-book p) in
     let fit = rooms (whole (from p)) (identifier (from p)) a.account a.day (length a.cases.now) (length a.firsts.now) (length a.seconds.now) (enough p) in
     (omega (arith, few, begins (begun (goal.at.write_marks-requires c).After-row_of-row), n), omega (arith, fit.0, n), omega (arith, fit.1, n), omega (arith, fit.2, n))
 

@@ -7,7 +7,6 @@ use Rattle.laws.proofs.RuleByRule.{Outcomes, told}
 use Rattle.meaning.specs.Notifications.{period_offends, volume_offends, some_entry}
 use Rattle.messages.specs.Structs.{notification_of}
 use Rattle.book.specs.Structs.{setting_in}
-use Rattle.message_checks.specs.Checks.{outcome_of}
 use Rattle.message_checks.proofs.CheckLaws.{some-below-count}
 use Rattle.message_checks.proofs.notifications.entries_outcome.Goals as goal
 use Rattle.message_checks.proofs.notifications.entries_outcome.Goals.{Else-period-n, Start}
@@ -17,7 +16,7 @@ returns-then-period-n c =
     let n = c.args.n in
     let place = c.first_wrong_period-period in
     let met = some-below-count n (period_offends (setting_in c.args.b) (notification_of n)) place.ensures ∙ lt-ltb place.result n.count c.if-period-n.true in
-    ap (λ (k : ℕ). record { answer = 10; place = k }) place.ensures ∙ ap outcome_of (told _ (Outcomes.met met))
+    ap (λ (k : ℕ). record { answer = 10; place = k }) place.ensures ∙ told _ (Outcomes.met met)
 
 -- no period offends
 abbrev start_of : Else-period-n → Start
@@ -34,11 +33,11 @@ returns-then-volume-n c =
     let n = c.args.n in
     let place = c.first_wrong_volume-volume in
     let met = some-below-count n (volume_offends (notification_of n)) place.ensures ∙ lt-ltb place.result n.count c.if-volume-n.true in
-    ap (λ (k : ℕ). record { answer = 11; place = k }) place.ensures ∙ ap outcome_of (told _ (Outcomes.passed (rise (search)) (Outcomes.met met)))
+    ap (λ (k : ℕ). record { answer = 11; place = k }) place.ensures ∙ told _ (Outcomes.passed (rise (search)) (Outcomes.met met))
 
 pub returns : goal.returns
 returns c =
     let n = c.args.n in
     let place = c.first_wrong_volume-volume in
     let passed = some-below-count n (volume_offends (notification_of n)) place.ensures ∙ le-ltb place.result n.count c.if-volume-n.false in
-    c.placeless.ensures ∙ ap outcome_of (told _ (Outcomes.passed (rise (search)) (Outcomes.passed passed Outcomes.none)))
+    told _ (Outcomes.passed (rise (search)) (Outcomes.passed passed Outcomes.none))

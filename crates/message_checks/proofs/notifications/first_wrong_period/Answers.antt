@@ -9,24 +9,26 @@ use Rattle.message_checks.proofs.CheckLaws.{wrong_period, period_of, period-foun
 use Rattle.message_checks.proofs.notifications.first_wrong_period.Goals as goal
 
 pub loop-k-init : goal.loop-k-init
-loop-k-init c = (omega arith, c.entries_inside-count.ensures, refl, some-none _)
+loop-k-init c = (refl, some-none _)
 
 pub returns-then-not-before-period : goal.returns-then-not-before-period
 returns-then-not-before-period c =
     let n = c.args.n in
     let l = c.loop-k in
-    let wrong : wrong_period c.highest_period-highest.result (period_of n) l.k ≡ true = rw (← l.invariant.2) (ap not c.if-not-before-period.true) in
-    period-found (setting_in c.args.b) n c.highest_period-highest.ensures l.k (omega (arith, l.invariant.1)) l.invariant.3 (omega (arith, l.invariant.1)) wrong
+    let wrong : wrong_period c.highest_period-highest.result (period_of n) l.k ≡ true = rw (← l.invariant.0) (ap not c.if-not-before-period.true) in
+    period-found (setting_in c.args.b) n c.highest_period-highest.ensures l.k (omega (arith, c.entries_inside-count.ensures)) l.invariant.1 (omega (arith, c.entries_inside-count.ensures)) wrong
 
 pub loop-k-preserved : goal.loop-k-preserved
 loop-k-preserved c =
     let n = c.args.n in
     let l = c.loop-k in
     let h = c.highest_period-highest.result in
-    let right : wrong_period h (period_of n) l.k ≡ false = rw (← l.invariant.2) (ap not c.if-not-before-period.false) in
-    (omega arith, l.invariant.1, rw add-one, some_more l.k (wrong_period h (period_of n)) ∙ rw (l.invariant.3, right))
+    let right : wrong_period h (period_of n) l.k ≡ false = rw (← l.invariant.0) (ap not c.if-not-before-period.false) in
+    (rw add-one, some_more l.k (wrong_period h (period_of n)) ∙ rw (l.invariant.1, right))
 
 pub returns : goal.returns
 returns c =
+    let n = c.args.n in
     let l = c.loop-k in
-    periods-ended (setting_in c.args.b) c.args.n c.highest_period-highest.ensures l.k (omega (arith, l.invariant.1)) l.invariant.3 (omega (arith, l.invariant.1))
+    let ended : c.entries_inside-count.result ≡ l.k = omega arith in
+    ended ∙ periods-ended (setting_in c.args.b) n c.highest_period-highest.ensures l.k (omega (arith, c.entries_inside-count.ensures)) l.invariant.1 (omega (arith, c.entries_inside-count.ensures))

@@ -11,4 +11,4 @@ pub returns-in-2 : goal.returns-in-2
 returns-in-2 c = sym (bits-nullification c.args.kind c.args.count c.in-2.is)
 
 pub returns-in_default : goal.returns-in_default
-returns-in_default c = sym (bits-other c.args.kind c.args.count c.in_default.in_default-own.rest.0.1 c.in_default.in_default-own.rest.1)
+returns-in_default c = sym (bits-other c.args.kind c.args.count (omega arith) (omega arith))

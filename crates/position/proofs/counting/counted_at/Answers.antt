@@ -16,12 +16,6 @@ use Rattle.position.specs.Counting.{counted_at}
 use Rattle.position.proofs.counting.counted_at.Goals as goal
 use Rattle.position.proofs.counting.counted_at.Goals.{After-is_matched, Start}
 
-pub bounds-side1-place : goal.bounds-side1-place
-bounds-side1-place c = c.requires.0
-
-pub bounds-side2-place : goal.bounds-side2-place
-bounds-side2-place c = c.requires.1
-
 -- the volumes at the place
 module _ (s : Start) where
   abbrev first : ℤ

@@ -5,11 +5,6 @@ use Rattle.position.specs.Counting.{figures_for}
 use Rattle.position.proofs.FigureLaws.{net-fits}
 use Rattle.position.proofs.day_figures.day_figures.Goals as goal
 
-pub overflow_sub-net : goal.overflow_sub-net
-overflow_sub-net c =
-    rw (to_z-of_z {w = w64} c.ranges.sold, to_z-of_z {w = w64} c.ranges.bought)
-    (net-fits c.args.sold c.args.bought c.requires.0 c.requires.1)
-
 pub returns : goal.returns
 unfolding figures_for
 returns c =

@@ -1,103 +1,85 @@
 -- After some turns the two locals hold the sums of the first periods' parts.
 use mathlib.Core.Bool.{Bool, true, false}
 use mathlib.Core.Path.{◌≡◌, sym, ap, ◌∙◌}
-use Prim.Native.Nat.{ℕ, ◌+◌, ◌≤◌}
+use Prim.Native.Nat.{◌+◌, ◌≤◌}
 use native.Mathlib.Omega.{arith}
-use lib.IntN.{ℤ, nat_abs}
+use lib.IntN.{ℤ, pos, nat_abs, ◌-ℤ◌}
+use native.Mathlib.Nat.{le_trans}
+use mir.Facts.{to_z-of_z}
+use Rattle.std.specs.Int.{int_max}
+use Rattle.meaning.specs.Totals.{above_zero}
 use mir.Syntax.{w64}
 use mir.Val.{to_z, of_z}
 use Rattle.laws.proofs.Machine.{back}
-use Rattle.position.proofs.Gathering.{gathered_none, gathered-fits, gathered-more}
+use Rattle.position.proofs.Gathering.{gathered_none, gathered-more}
 use Rattle.meaning.specs.Authorisations.{in_pair}
 use Rattle.setups.specs.Structs.{row_of}
 use Rattle.position.specs.Counting.{counted_at, part_of, slot_part}
-use Rattle.position.proofs.FigureLaws.{foreign-parts}
+use Rattle.position.proofs.FigureLaws.{foreign-parts, above-max, below-max, part_small, negated_fits}
 use Rattle.position.proofs.day_figures.slot_sums.Goals as goal
-use Rattle.position.proofs.day_figures.slot_sums.Goals.{After-part_of-bought, After-part_of-sold, At-loop-p, Start}
+use Rattle.position.proofs.day_figures.slot_sums.Goals.{After-max-bought}
 
-pub returns-then-not-in_pair : goal.returns-then-not-in_pair
-returns-then-not-in_pair c =
+pub loop-p-init : goal.loop-p-init
+loop-p-init c = record { sold_so_far = gathered_none _ _; bought_so_far = gathered_none _ _ }
+
+-- a turn: what the place counts is sold or bought
+module _ (c : After-max-bought) where
+  abbrev counts : ℤ
+  counts =
+      let a = c.args in
+      counted_at (row_of a.origin) a.account a.side1.now a.side2.now (a.first + c.loop-p.p)
+
+  kwh-is : to_z w64 (of_z w64 c.counted_at-kwh.result) ≡ counts
+  kwh-is = back w64 c.counted_at-kwh.result c.counted_at-kwh.type_inv ∙ c.counted_at-kwh.ensures.0
+
+  counts-small : nat_abs counts ≤ 2147483648
+  counts-small = rw (← c.counted_at-kwh.ensures.0) c.counted_at-kwh.ensures.1
+
+  sold-term : c.max-sold.result ≡ part_of false counts
+  unfolding part_of
+  sold-term = c.max-sold.ensures.value ∙ above-max _ ∙ ap above_zero kwh-is
+
+  bought-term : c.max-bought.result ≡ part_of true counts
+  unfolding part_of
+  bought-term =
+      c.max-bought.ensures.value
+      ∙ ap (λ (z : ℤ). int_max (to_z w64 (of_z w64 (pos 0 -ℤ z))) (pos 0)) kwh-is
+      ∙ ap (λ (z : ℤ). int_max z (pos 0)) (to_z-of_z {w = w64} (negated_fits counts counts-small))
+      ∙ below-max counts
+
+  part-small : (below : Bool) → nat_abs (part_of below counts) ≤ 2147483648
+  part-small below = le_trans (part_small below counts) counts-small
+
+pub loop-p-preserved : goal.loop-p-preserved
+loop-p-preserved c =
+    let l = c.loop-p.invariant in
+    let at = (goal.at.loop-p-preserved c).After-max-bought in
+    record {
+      sold_so_far = gathered-more c.max-sold.result l.sold_so_far (sold-term at) (part-small at false) (omega arith);
+      bought_so_far = gathered-more c.max-bought.result l.bought_so_far (bought-term at) (part-small at true) (omega arith);
+    }
+
+pub returns-after-loop-p : goal.returns-after-loop-p
+unfolding slot_part
+returns-after-loop-p c =
+    let l = c.loop-p in
+    let e : l.p ≡ c.args.periods = omega arith in
+    let sold = l.invariant.sold_so_far in
+    let bought = l.invariant.bought_so_far in
+    record {
+      sold-is = sold.is ∙ rw e;
+      bought-is = bought.is ∙ rw e;
+      sold-fits = rw sold.is (omega (arith, sold.bound));
+      bought-fits = rw bought.is (omega (arith, bought.bound));
+    }
+
+pub returns-else-in_pair : goal.returns-else-in_pair
+returns-else-in_pair c =
     let a = c.args in
-    let pair = c.in_pair in
-    let foreign : in_pair (row_of a.origin) a.account ≡ false = sym pair.ensures ∙ c.if-not-in_pair.true in
+    let foreign : in_pair (row_of a.origin) a.account ≡ false = sym c.in_pair.ensures ∙ c.if-in_pair.false in
     record {
       sold-is = foreign-parts (row_of a.origin) a.account a.side1.now a.side2.now a.first a.periods false foreign;
       bought-is = foreign-parts (row_of a.origin) a.account a.side1.now a.side2.now a.first a.periods true foreign;
       sold-fits = omega arith;
       bought-fits = omega arith;
-    }
-
-pub loop-p-init : goal.loop-p-init
-loop-p-init c = (omega arith, gathered_none _ _, gathered_none _ _)
-
-pub overflow_add-first : goal.overflow_add-first
-overflow_add-first c = omega (arith, c.requires.0.in1)
-
-pub counted_at-kwh-requires : goal.counted_at-kwh-requires
-counted_at-kwh-requires c =
-    (omega (arith, c.requires.0.in1), omega (arith, c.requires.0.in2))
-
-pub part_of-sold-requires : goal.part_of-sold-requires
-part_of-sold-requires c = rw (back w64 c.counted_at-kwh.result c.counted_at-kwh.type_inv) c.counted_at-kwh.ensures.1
-
-pub part_of-bought-requires : goal.part_of-bought-requires
-part_of-bought-requires c =
-    let counted = c.counted_at-kwh in
-    rw (back w64 counted.result counted.type_inv) counted.ensures.1
-
--- the parts of the periods
-abbrev parts : Bool → Start → ℕ → ℤ
-parts below s k = part_of below (counted_at (row_of s.args.origin) s.args.account s.args.side1.now s.args.side2.now (s.args.first + k))
-
--- a turn: what is sold
-module _ (c : After-part_of-sold) where
-  abbrev at-loop : At-loop-p
-  at-loop = (goal.at.After-part_of-sold c).At-loop-p
-
-  abbrev start : Start
-  start = (goal.at.At-loop-p at-loop).Start
-
-  counts : (below : Bool) → part_of below (to_z w64 (of_z w64 c.counted_at-kwh.result)) ≡ parts below start at-loop.loop-p.p
-  counts below = let counted = c.counted_at-kwh in ap (part_of below) (back w64 counted.result counted.type_inv ∙ counted.ensures.0)
-
-  sold-term : c.part_of-sold.result ≡ parts false start at-loop.loop-p.p
-  sold-term = c.part_of-sold.ensures.0 ∙ counts false
-
-  sold-small : nat_abs (parts false start at-loop.loop-p.p) ≤ 2147483648
-  sold-small = rw (← sold-term) c.part_of-sold.ensures.1
-
--- and bought
-module _ (c : After-part_of-bought) where
-  bought-term : c.part_of-bought.result ≡ parts true (start (goal.at.After-part_of-bought c).After-part_of-sold) (at-loop (goal.at.After-part_of-bought c).After-part_of-sold).loop-p.p
-  bought-term = c.part_of-bought.ensures.0 ∙ counts (goal.at.After-part_of-bought c).After-part_of-sold true
-
-  bought-small : nat_abs (parts true (start (goal.at.After-part_of-bought c).After-part_of-sold) (at-loop (goal.at.After-part_of-bought c).After-part_of-sold).loop-p.p) ≤ 2147483648
-  bought-small = rw (← bought-term) c.part_of-bought.ensures.1
-
-pub overflow_add-sold : goal.overflow_add-sold
-overflow_add-sold c = gathered-fits c.part_of-sold.result (at-loop (goal.at.overflow_add-sold c).After-part_of-sold).loop-p.invariant.1 (sold-term (goal.at.overflow_add-sold c).After-part_of-sold) (sold-small (goal.at.overflow_add-sold c).After-part_of-sold) (omega arith)
-
-pub overflow_add-bought : goal.overflow_add-bought
-overflow_add-bought c = gathered-fits c.part_of-bought.result (at-loop (goal.at.overflow_add-bought c).After-part_of-sold).loop-p.invariant.2 (bought-term (goal.at.overflow_add-bought c).After-part_of-bought) (bought-small (goal.at.overflow_add-bought c).After-part_of-bought) (omega arith)
-
-pub loop-p-preserved : goal.loop-p-preserved
-loop-p-preserved c =
-    let l = (at-loop (goal.at.loop-p-preserved c).After-part_of-sold).loop-p in (
-      omega arith,
-      gathered-more c.part_of-sold.result l.invariant.1 (sold-term (goal.at.loop-p-preserved c).After-part_of-sold) (sold-small (goal.at.loop-p-preserved c).After-part_of-sold) (omega arith),
-      gathered-more c.part_of-bought.result l.invariant.2 (bought-term (goal.at.loop-p-preserved c).After-part_of-bought) (bought-small (goal.at.loop-p-preserved c).After-part_of-bought) (omega arith),
-    )
-
-pub returns : goal.returns
-unfolding slot_part
-returns c =
-    let l = c.loop-p in
-    let e : l.p ≡ c.args.periods = omega arith in
-    let sold = l.invariant.1.is in
-    let bought = l.invariant.2.is in
-    record {
-      sold-is = sold ∙ rw e;
-      bought-is = bought ∙ rw e;
-      sold-fits = rw sold (omega (arith, l.invariant.1.bound));
-      bought-fits = rw bought (omega (arith, l.invariant.2.bound));
     }

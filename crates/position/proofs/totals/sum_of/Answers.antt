@@ -1,73 +1,75 @@
 -- After some turns the local holds what the first slots count together.
-use mathlib.Core.Path.{◌≡◌, sym, ◌∙◌}
-use Prim.Native.Nat.{ℕ, suc, ◌≤◌}
+use mathlib.Core.Path.{◌≡◌, ap, ◌∙◌}
+use Prim.Native.Nat.{ℕ, suc, ◌+◌, ◌^◌, ◌≤◌, ◌<◌}
 use native.Mathlib.Omega.{arith}
+use borrow.Author.Rules.{rules}
 use lib.IntN.{ℤ, nat_abs}
 use lib.ListN.{length}
-use Rattle.position.proofs.Gathering.{gathered_none, gathered-fits, gathered-more}
+use Rattle.setups.specs.Structs.{row_of}
+use Rattle.ledger.proofs.PlaceLaws.{index-next}
+use Rattle.meaning.specs.Ledgers.{index}
 use Rattle.meaning.specs.Totals.{counted, sum_of}
-use Rattle.book.specs.Structs.{book_of}
-use Rattle.book.proofs.StateLaws.{rows-length, place-few, origin-read}
-use Rattle.position.specs.Counting.{counted_at}
-use Rattle.position.proofs.TotalLaws.{counted-by-place}
-use Rattle.position.proofs.DayLaws.{slots-few, place_inside}
+use Rattle.book.specs.Structs.{book_seen}
+use Rattle.position.proofs.Gathering.{gathered_none, gathered-fits, gathered-more}
+use Rattle.position.proofs.DayLaws.{slots-few, place_inside, counted-from}
 use Rattle.position.proofs.totals.sum_of.Goals as goal
-use Rattle.position.proofs.totals.sum_of.Goals.{After-counted_at-kwh, At-loop-slot, Start}
+use Rattle.position.proofs.totals.sum_of.Goals.{After-counted_at-kwh, After-slot_day-at, Start}
 
 -- a sound book's slots are few
-few : (s : Start) → length s.args.held.now ≤ 256
-few s = slots-few s.args.b s.args.held.now s.args.side1.now s.args.side2.now s.args.d s.requires.0
+few : (s : Start) → length s.args.day.view.held.now ≤ 256
+few s =
+    let day = s.args.day in
+    let v = day.view in
+    slots-few v.book v.held.now v.side1.now v.side2.now day.place day.asked
 
 pub loop-slot-init : goal.loop-slot-init
-loop-slot-init c = (omega arith, gathered_none _ _)
+loop-slot-init c = gathered_none _ _
 
-pub offset_bounds-rows-origin_place : goal.offset_bounds-rows-origin_place
-offset_bounds-rows-origin_place c = omega (arith, place-few _ c.origin_place.ensures)
+-- the slot's place
+inside : (c : After-slot_day-at) → let v = c.args.day.view in let place = c.slot_day-at.result.first + c.args.p in (place < length v.side1.now) × (place < length v.side2.now)
+inside c =
+    let v = c.args.day.view in
+    let place-is : c.slot_day-at.result.first + c.args.p ≡ index v.book.setup.days c.loop-slot.slot c.args.day.place (suc c.args.p) =
+    ap (λ (k : ℕ). k + c.args.p) c.slot_day-at.ensures.1 ∙ index-next v.book.setup.days c.loop-slot.slot c.args.day.place c.args.p in
+    place_inside v.book v.held.now v.side1.now v.side2.now c.args.day.place c.args.day.asked c.loop-slot.slot (c.slot_day-at.result.first + c.args.p) c.args.p c.loop-slot-test.true place-is c.requires
 
-pub bounds-rows-origin_place : goal.bounds-rows-origin_place
-bounds-rows-origin_place c = place-few _ c.origin_place.ensures
-
-pub overflow_cast-slot : goal.overflow_cast-slot
-overflow_cast-slot c = omega (arith, few (goal.at.overflow_cast-slot c).Start)
+pub overflow_add-place : goal.overflow_add-place
+overflow_add-place c =
+    let short : length c.args.day.view.side1.now < 2 ^ 64 = search rules in
+    omega (arith, (inside (goal.at.overflow_add-place c).After-slot_day-at).0, short)
 
 pub counted_at-kwh-requires : goal.counted_at-kwh-requires
-counted_at-kwh-requires c =
-    place_inside c.args.b c.args.held.now c.args.side1.now c.args.side2.now c.args.d c.requires.0 c.loop-slot.slot c.place_of-place.result c.args.p (omega arith) c.place_of-place.ensures c.requires.1
+counted_at-kwh-requires c = inside (goal.at.counted_at-kwh-requires c).After-slot_day-at
 
 -- a turn: what the slot counts
 module _ (c : After-counted_at-kwh) where
-  abbrev at-loop : At-loop-slot
-  at-loop = (goal.at.After-counted_at-kwh c).At-loop-slot
-
-  abbrev start : Start
-  start = (goal.at.At-loop-slot at-loop).Start
-
   abbrev counts : ℕ → ℤ
-  counts =
-      let a = start.args in
-      counted (book_of a.b a.held.now a.side1.now a.side2.now) a.account a.d (suc a.p)
+  counts = counted (book_seen c.args.day.view) c.args.account c.args.day.place (suc c.args.p)
 
-  term : c.counted_at-kwh.result ≡ counts at-loop.loop-slot.slot
+  term : c.counted_at-kwh.result ≡ counts c.loop-slot.slot
   term =
-      let a = start.args in
-      let origin = origin-read a.b.setup _ (rows-length a.b start.well_formed.0) c.origin_place.ensures c.origin_row-origin.ensures in
+      let a = c.args in
+      let v = a.day.view in
+      let slot = c.slot_day-at in
       c.counted_at-kwh.ensures.0
-      ∙ (λ i. counted_at (origin i) a.account a.side1.now a.side2.now (c.place_of-place.ensures i))
-      ∙ sym (counted-by-place a.b a.held.now a.side1.now a.side2.now a.account a.d a.p at-loop.loop-slot.slot)
+      ∙ counted-from v.book v.held.now v.side1.now v.side2.now a.account a.day.place c.loop-slot.slot (row_of slot.result.origin) slot.result.first slot.ensures.0 slot.ensures.1 a.p
 
-  small : nat_abs (counts at-loop.loop-slot.slot) ≤ 2147483648
+  small : nat_abs (counts c.loop-slot.slot) ≤ 2147483648
   small = rw (← term) c.counted_at-kwh.ensures.1
 
 pub overflow_add-kwh : goal.overflow_add-kwh
-overflow_add-kwh c = gathered-fits c.counted_at-kwh.result (at-loop (goal.at.overflow_add-kwh c).After-counted_at-kwh).loop-slot.invariant.1 (term (goal.at.overflow_add-kwh c).After-counted_at-kwh) (small (goal.at.overflow_add-kwh c).After-counted_at-kwh) (omega (arith, few (start (goal.at.overflow_add-kwh c).After-counted_at-kwh)))
+overflow_add-kwh c =
+    let at = (goal.at.overflow_add-kwh c).After-counted_at-kwh in
+    gathered-fits c.counted_at-kwh.result c.loop-slot.invariant (term at) (small at) (omega (arith, few (goal.at.overflow_add-kwh c).Start))
 
 pub loop-slot-preserved : goal.loop-slot-preserved
 loop-slot-preserved c =
-    (omega arith, gathered-more c.counted_at-kwh.result (at-loop (goal.at.loop-slot-preserved c).After-counted_at-kwh).loop-slot.invariant.1 (term (goal.at.loop-slot-preserved c).After-counted_at-kwh) (small (goal.at.loop-slot-preserved c).After-counted_at-kwh) (omega (arith, few (start (goal.at.loop-slot-preserved c).After-counted_at-kwh))))
+    let at = (goal.at.loop-slot-preserved c).After-counted_at-kwh in
+    gathered-more c.counted_at-kwh.result c.loop-slot.invariant (term at) (small at) (omega (arith, few (goal.at.loop-slot-preserved c).Start))
 
 pub returns : goal.returns
 unfolding sum_of
 returns c =
     let l = c.loop-slot in
-    let e : l.slot ≡ length c.args.held.now = omega arith in
-    l.invariant.1.is ∙ rw e
+    let e : l.slot ≡ length c.args.day.view.held.now = omega arith in
+    l.invariant.is ∙ rw e

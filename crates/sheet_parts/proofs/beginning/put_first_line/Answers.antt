@@ -1,14 +1,16 @@
--- Each case is the promise of the function that writes its line.
-use Rattle.std.proofs.Common.{eq-eqb, ne_eqb}
+-- Each case is the promise of the function that writes its line. No refusal's number is 0.
+use Rattle.std.proofs.Common.{ne_eqb}
+use Rattle.limits.specs.Refusals.{number_of}
+use Rattle.limits.proofs.AnswerNumbers.{never-done}
 use Rattle.sheet_turns.specs.Turns.{line_for}
 use Rattle.sheet_parts.proofs.beginning.put_first_line.Goals as goal
 
-pub returns-then-answer-ne0 : goal.returns-then-answer-ne0
+pub returns-in-Ok : goal.returns-in-Ok
 unfolding line_for
-returns-then-answer-ne0 c =
-    rw (ne_eqb c.args.answer 0 c.if-answer-ne0.true) c.put_setup_line.ensures
+returns-in-Ok c = rw c.in-Ok.is c.put_sheet_line.ensures
 
-pub returns : goal.returns
+pub returns-in-Err : goal.returns-in-Err
 unfolding line_for
-returns c =
-    rw (eq-eqb c.args.answer 0 c.if-answer-ne0.false) c.put_sheet_line.ensures
+returns-in-Err c =
+    let refusal = c.in-Err.refusal in
+    rw (c.in-Err.is, ne_eqb (number_of refusal) 0 (never-done refusal)) (rw c.into.ensures at c.put_setup_line.ensures)

@@ -44,7 +44,7 @@ returns-then-line c =
       is (goal.at.returns-then-line c).After-scale,
     )
 
-pub returns : goal.returns
+pub returns-else-line : goal.returns-else-line
 unfolding entry_from kwh
-returns c =
-    rw (to_z_pos w32 (size (goal.at.returns c).After-scale) (omega (arith, small (goal.at.returns c).After-scale)), c.if-line.false, is (goal.at.returns c).After-scale)
+returns-else-line c =
+    rw (to_z_pos w32 (size (goal.at.returns-else-line c).After-scale) (omega (arith, small (goal.at.returns-else-line c).After-scale)), c.if-line.false, is (goal.at.returns-else-line c).After-scale)

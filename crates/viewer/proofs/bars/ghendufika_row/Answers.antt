@@ -1,8 +1,9 @@
 -- The promise of the function that it calls, whose numbers are narrowed.
+use mathlib.Core.Path.{◌∙◌}
 use Rattle.viewer.proofs.Promises.{placed-kept}
 use Rattle.viewer.proofs.bars.ghendufika_row.Goals as goal
 
 pub returns : goal.returns
 returns c =
     placed-kept _ _ _ _ _ _ c.originator_named-originator.ensures c.at_most_65535-reference.ensures _ _ c.at_most_65535-day.ensures c.at_most_255-side.ensures _
-    c.row_place.ensures.0
+    (c.into.ensures ∙ rw c.seen-view.ensures.seen at c.row_place.ensures.placed.0)

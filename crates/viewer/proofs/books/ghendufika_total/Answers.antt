@@ -1,8 +1,9 @@
 -- The promise of the function that it calls, whose numbers are narrowed.
+use mathlib.Core.Path.{◌∙◌}
 use Rattle.viewer.proofs.Promises.{total_kept}
 use Rattle.viewer.proofs.books.ghendufika_total.Goals as goal
 
 pub returns : goal.returns
 returns c =
     total_kept _ _ _ _ _ _ _ c.at_most_255-account.ensures c.at_most_65535-day.ensures c.at_most_255-period.ensures _
-    c.total.ensures
+    (c.into.ensures ∙ rw c.seen-view.ensures.seen at c.total.ensures)

@@ -1,6 +1,0 @@
--- The width made narrow, then the bits.
-use mathlib.Core.Path.{◌∙◌}
-use Rattle.fields.proofs.write_field.Goals as goal
-
-pub returns : goal.returns
-returns c = c.write_bits.ensures ∙ rw c.narrowed-w.ensures

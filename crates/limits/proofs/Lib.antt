@@ -1,0 +1,3 @@
+pub mod AnswerNumbers
+pub mod Told
+pub mod KindNumbers

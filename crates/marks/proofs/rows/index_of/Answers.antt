@@ -1,8 +1,0 @@
--- The place by the day's place in the book, and the period's place in the day.
-use mathlib.Core.Path.{◌∙◌}
-use Rattle.marks.proofs.RowLaws.{index_is}
-use Rattle.marks.proofs.rows.index_of.Goals as goal
-
-pub returns : goal.returns
-returns c =
-    c.place_of.ensures ∙ index_is c.args.b c.args.slot c.args.period c.requires.2 c.day_of-d.ensures

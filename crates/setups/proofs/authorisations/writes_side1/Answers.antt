@@ -1,6 +1,0 @@
--- The code's own test.
-use mathlib.Core.Path.{refl}
-use Rattle.setups.proofs.authorisations.writes_side1.Goals as goal
-
-pub returns : goal.returns
-returns c = refl
