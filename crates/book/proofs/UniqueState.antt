@@ -21,6 +21,7 @@ use Rattle.book.proofs.state.row_of.Reads as row_of
 use Rattle.book.proofs.state.origin_place.Reads as origin-place
 use Rattle.book.proofs.state.origin_row.Reads as origin-row
 use Rattle.book.proofs.BookView.is_sound.Reads as is-sound
+use Rattle.book.proofs.soundness.is_sound.Reads as is-sound-apart
 use Rattle.book.proofs.opening.opening_refusal.Reads as opening-refusal
 use Rattle.book.proofs.opening.no_book.Reads as no-book
 use Rattle.book.proofs.opening.open.Reads as opening
@@ -41,6 +42,9 @@ unique-origin-row κs a r r' s s' = one-outcome
 
 pub unique-is-sound : OneResult is-sound.Post
 unique-is-sound κs a r r' s s' = one-outcome
+
+pub unique-is-sound-apart : OneResult is-sound-apart.Post
+unique-is-sound-apart κs a r r' s s' = one-outcome
 
 pub unique-opening-refusal : OneResult opening-refusal.Post
 unique-opening-refusal κs a r r' s s' p q = same-answer r r' (one-outcome p q)

@@ -13,9 +13,10 @@ fn some_code_disagrees(s: Setup) -> bool
     requires { (s.days ≤ 8) × (s.first + s.days ≤ 36525) }
     ensures { result ≡ some_code_disagrees (setup_of s) }
 {
+    let codes = s.codes; // apart: for a borrow of its field the whole setup is copied
     for d in 0..s.days {
         let coded = calendar::lengths::code_of_day(s.first as u32 + d as u32);
-        if coded != Ok(s.codes[d as usize]) {
+        if coded != Ok(codes[d as usize]) {
             return true;
         }
     }

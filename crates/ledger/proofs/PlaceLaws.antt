@@ -12,7 +12,7 @@ unfolding index
 place_is n slot d p = omega arith
 
 -- four bytes name no place above this one
-product-few : (slot n : ℕ) → slot ≤ 255 → n ≤ 255 → slot * n ≤ 65025
+pub product-few : (slot n : ℕ) → slot ≤ 255 → n ≤ 255 → slot * n ≤ 65025
 product-few slot n h l = mul-le-mul h l
 
 pub index-few : (n slot d p : ℕ) → slot < 256 → n < 256 → d < 256 → p < 256 → index n slot d (suc p) ≤ 3264255

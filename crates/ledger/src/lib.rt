@@ -3,7 +3,7 @@
 
 pub mod slots; // slots.rt: the identifier that a slot holds, and the slot of an identifier
 
-ghost use Rattle.std.specs.Prelude.{◌≡◌, suc, get_or, replicate};
+ghost use Rattle.std.specs.Prelude.{◌≡◌, ◌-◌, suc, min, get_or, replicate};
 ghost use Rattle.std.proofs.lemmas.List.Edits.{sets};
 ghost use Rattle.meaning.specs.Ledgers.{contracts, index, stands, the_mark};
 
@@ -31,13 +31,23 @@ pub fn volume_at(side: &[i32], place: usize) -> i32
     side.get(place).copied().unwrap_or(MARK)
 }
 
-// The values stored from place `at` on, one after the other; a place past the end stores nothing.
+// How many of `count` places from place `at` on are inside a table of this length.
+fn inside(length: usize, at: usize, count: usize) -> usize
+    ensures { result ≡ min count (length - at) }
+{
+    count.min(length.saturating_sub(at))
+}
+
+// The values stored from place `at` on, one after the other; a place past the end stores nothing. Place by place, since of `copy_from_slice` the
+// compiler makes `memmove`, one name more that the archive for C would need from outside.
 pub fn store_run(side: &mut [i32], at: usize, values: &[i32])
     ensures { side.new ≡ sets side.old at values.now }
 {
-    let from = at.min(side.len());
-    let n = values.len().min(side.len() - from);
-    side[from..from + n].copy_from_slice(&values[..n]);
+    let n = inside(side.len(), at, values.len());
+    for k in 0..n {
+        let v = values[k];
+        side[at + k] = v;
+    }
 }
 
 // The mark stored at `count` places from place `at` on; a place past the end stores nothing.
@@ -45,6 +55,6 @@ pub fn blank_run(side: &mut [i32], at: usize, count: usize)
     ensures { side.new ≡ sets side.old at (replicate count the_mark) }
 {
     let from = at.min(side.len());
-    let n = count.min(side.len() - from);
+    let n = inside(side.len(), from, count);
     side[from..from + n].fill(MARK);
 }

@@ -9,8 +9,9 @@ use Rattle.std.specs.Prelude.{Result}
 use Rattle.limits.specs.declared.refusals.Refusal.{Refusal}
 use Rattle.meaning.specs.Ledgers.{identifier_of}
 use Rattle.meaning.specs.Rows as Meaning
+use Rattle.book.specs.declared.Book.{Book}
 use Rattle.book.specs.declared.BookView.{BookView}
-use Rattle.book.specs.Structs.{book_seen}
+use Rattle.book.specs.Structs.{book_of, book_seen}
 use Rattle.bar.specs.declared.Bar.{Bar}
 use Rattle.marks.specs.Marks.{marked_of, marked}
 use Rattle.marks.proofs.periods.mark.Reads as mark
@@ -22,7 +23,8 @@ module _ (view : BookView) (originator reference : ℕ) where
       → marked_of r ≡ marked (book_seen view) (identifier_of originator reference) account day period
   mark-promises κs account day period r p = p
 
-  pub row-promises : (κs : Lfts 1) (day side : ℕ) (r : Bor (List ℤ))
-      → row.Post κs (view, (originator, (reference, (day, (side, tt))))) r (view, (originator, (reference, (day, (side, tt)))))
-      → r.now ≡ Meaning.row (book_seen view) (identifier_of originator reference) day side
+module _ (b : Book) (held : Bor (List ℕ)) (side1 side2 : Bor (List ℤ)) (originator reference : ℕ) where
+  pub row-promises : (κs : Lfts 2) (day side : ℕ) (r : Bor (List ℤ))
+      → row.Post κs (b, (held, (side1, (side2, (originator, (reference, (day, (side, tt)))))))) r (b, (held, (side1, (side2, (originator, (reference, (day, (side, tt))))))))
+      → r.now ≡ Meaning.row (book_of b held.now side1.now side2.now) (identifier_of originator reference) day side
   row-promises κs day side r p = p

@@ -7,7 +7,7 @@ ghost use Rattle.limits.specs.Refusals.{answer_of};
 ghost use Rattle.meaning.specs.Time.{periods_at, days, day_of, has_day};
 ghost use Rattle.meaning.specs.Ledgers.{index, identifier_of};
 ghost use Rattle.meaning.specs.Rows.{row_rules, row};
-ghost use Rattle.book.specs.Structs.{time_in, book_seen};
+ghost use Rattle.book.specs.Structs.{time_in, book_of, book_seen};
 ghost use Rattle.marks.specs.Rows.{row_placed, row_place, table_of, part_at};
 
 use crate::RowPart;
@@ -69,18 +69,34 @@ pub fn row_refusal(
     Ok(())
 }
 
-// The day's part of a side's own table, the day's length long; empty where `row_refusal` refuses it.
-pub fn row<'a>(view: BookView<'a>, originator: u8, reference: u16, day: u16, side: u8) -> &'a [i32]
-    ensures { result.now ≡ row (book_seen view.entry) (identifier_of originator reference) day side }
+// The day's part of a side's own table, the day's length long; empty where `row_refusal` refuses it. The tables are lent apart: the row is a part of a
+// side's table and outlives what is lent as `held`, where those of a view live alike.
+pub fn row<'a>(
+    b: Book,
+    held: &[u32],
+    side1: &'a [i32],
+    side2: &'a [i32],
+    originator: u8,
+    reference: u16,
+    day: u16,
+    side: u8,
+) -> &'a [i32]
+    ensures { result.now ≡ row (book_of b held.now side1.now side2.now) (identifier_of originator reference) day side }
 {
+    let view = BookView {
+        book: b,
+        held,
+        side1,
+        side2,
+    };
     let Ok(part) = row_place(view, originator, reference, day, side) else {
-        return &view.side1[0..0];
+        return &side1[0..0];
     };
     let end = part.start + part.length;
     if side == 1 {
-        return &view.side1[part.start..end];
+        return &side1[part.start..end];
     }
-    &view.side2[part.start..end]
+    &side2[part.start..end]
 }
 
 // Where that part lies, for a caller that cannot be handed a part of its own table.

@@ -71,7 +71,7 @@ pub fn writing_refusal(m: Message, room: usize) -> Result<(), Refusal>
     ensures { answer_of result ≡ answer (writing_rules (message_of m) room) }
 {
     if m.kind == 3 {
-        return Err(Refusal::KindThree);
+        return layouts::kind_refusal(m.kind);
     }
     if !message_fits(m) {
         return Err(Refusal::ValueDoesNotFit);

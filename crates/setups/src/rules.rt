@@ -68,7 +68,8 @@ pub fn amendment_refusal(amendment: u8) -> Result<(), Refusal>
 pub fn code_wrong(s: Setup) -> bool
     ensures { result ≡ code_wrong (setup_of s) }
 {
-    s.codes
+    let codes = s.codes; // apart: for a borrow of its field the whole setup is copied
+    codes
         .iter()
         .take(s.days as usize)
         .any(|code| code_refusal(*code).is_err())

@@ -46,6 +46,25 @@ const OUTPUT_BYTES: usize = 65536;
 // A side's table has places for 16 slots and the 15 days that a packed setup can name.
 const SIDE_PLACES: usize = 12000;
 
+// The three sorts of buffer. Each promises its length, since the theorem on the sheet that is printed (`program-prints-the-sheet`) is of just these.
+fn input_buffer() -> [u8; INPUT_BYTES]
+    ensures { 2048 ≡ length result }
+{
+    [0; INPUT_BYTES]
+}
+
+fn output_buffer() -> [u8; OUTPUT_BYTES]
+    ensures { 65536 ≡ length result }
+{
+    [0; OUTPUT_BYTES]
+}
+
+fn side_table() -> [i32; SIDE_PLACES]
+    ensures { 12000 ≡ length result }
+{
+    [0; SIDE_PLACES]
+}
+
 // Prints the front of the buffer. No line is written past its end.
 fn print(streams: &mut Streams, out: &[u8], written: usize) {
     if written <= out.len() && streams.so_far.is_ok() {
@@ -146,8 +165,8 @@ fn print_messages(
     ensures { result.going ≡ true → result.turns ≡ 18446744073709551615 }
 {
     // A message takes a byte or more, so there is room for the answer to each that is at hand, and for its place.
-    let mut answers = [0u8; INPUT_BYTES];
-    let mut places = [0u8; INPUT_BYTES];
+    let mut answers = input_buffer();
+    let mut places = input_buffer();
     let mut progress = start;
     let mut turns: u64 = 0;
     while (turns < u64::MAX) & progress.going {
@@ -234,11 +253,11 @@ fn main(rt: HostRuntime) -> io::Result<()> {
         stdout: rt.stdout(),
         so_far: Ok(()),
     };
-    let mut bytes = [0u8; INPUT_BYTES];
-    let mut out = [0u8; OUTPUT_BYTES];
+    let mut bytes = input_buffer();
+    let mut out = output_buffer();
     let mut held = [0u32; beginning::SLOTS];
-    let mut table1 = [0i32; SIDE_PLACES];
-    let mut table2 = [0i32; SIDE_PLACES];
+    let mut table1 = side_table();
+    let mut table2 = side_table();
     let have = read_full(&mut streams, &mut bytes);
     let lent = beginning::lent_for(&bytes[..have]);
     print_sheet(

@@ -16,7 +16,7 @@ use Rattle.spreadsheet_reading.specs.declared.Unreadable.{Unreadable}
 use Rattle.spreadsheet_reading.specs.Reading.{Reading, as_spreadsheet_read}
 use Rattle.spreadsheet_reading.proofs.read_spreadsheet.Reads as read-spreadsheet
 
-one-reading : (s : List ℕ) (r r' : SpreadsheetRead) → Reading s r → Reading s r' → r ≡ r'
+pub one-reading : (s : List ℕ) (r r' : SpreadsheetRead) → Reading s r → Reading s r' → r ≡ r'
 one-reading s r r' a b =
     let (n, p) = unique s r.answer r'.answer r.place r'.place a.judged b.judged in
     let h : r.spreadsheet ≡ r'.spreadsheet =

@@ -7,6 +7,7 @@ pub mod NarrowedNullification
 pub mod Promises
 pub mod PackedPromises
 pub mod Unique
+pub mod UniqueStructs
 pub mod OnePosition
 pub mod PositionFromHistory
 pub mod CheckedPosition

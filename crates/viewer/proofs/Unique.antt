@@ -1,5 +1,5 @@
--- What is promised of the viewer's questions leaves no choice: two answers that both keep the promise are the same. The other exports of books.rt,
--- and those of days.rt, checked.rt and volumes.rt, have the promises of the functions that they call, word for word, and their uniqueness stands with those.
+-- What is promised of the viewer's questions leaves no choice: two answers that both keep the promise are the same. Of the other exports of books.rt,
+-- and of those of days.rt, checked.rt and volumes.rt: UniqueStructs.antt.
 use mathlib.Core.List.{List}
 use mathlib.Core.Path.{◌≡◌}
 use Prim.Native.Nat.{ℕ}

@@ -56,7 +56,7 @@ pub extern "C" fn ghendufika_open(
 pub extern "C" fn ghendufika_is_sound(b: Book, held: &[u32], side1: &[i32], side2: &[i32]) -> bool
     ensures { result ≡ sound (book_of b held.now side1.now side2.now) }
 {
-    asked::seen(b, held, side1, side2).is_sound()
+    book::soundness::is_sound(b, held, side1, side2)
 }
 
 #[unsafe(no_mangle)]

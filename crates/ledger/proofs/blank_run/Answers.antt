@@ -12,6 +12,6 @@ pub returns : goal.returns
 returns c =
     let a = c.args in
     let from = c.min-from.result in
-    let n = c.min-n.result in
+    let n = c.inside-n.result in
     let filled : c.fill.new.self ≡ replicate n the_mark = search rules in
-    clipped-fill a.side.now a.at from n (from + n - from) a.count the_mark c.fill.new.self c.min-from.ensures c.min-n.ensures (omega arith) filled
+    clipped-fill a.side.now a.at from n (from + n - from) a.count the_mark c.fill.new.self c.min-from.ensures c.inside-n.ensures (omega arith) filled

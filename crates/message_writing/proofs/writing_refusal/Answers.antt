@@ -1,16 +1,19 @@
 -- Each refusal is the rule of its test, by what the struct's types hold.
-use mathlib.Core.Path.{◌≡◌, sym, ◌∙◌}
+use mathlib.Core.Path.{◌≡◌, sym, ap, ◌∙◌}
 use native.Mathlib.Omega.{arith}
 use Rattle.words.specs.Fields.{bytes_for}
 use Rattle.meaning.specs.PackedMessages.{layout_for}
 use Rattle.message_writing.specs.Writing.{count_of}
+use Rattle.messages.specs.Parts.{kind_refusal}
 use Rattle.message_writing.proofs.StructRanges.{held}
 use Rattle.message_writing.proofs.WriteParts.{refused-20, refused-23, refused-24, refused_none}
 use Rattle.message_writing.proofs.writing_refusal.Goals as goal
 use Rattle.message_writing.proofs.writing_refusal.Goals.{After-bytes_for}
 
 pub returns-then-m-eq3 : goal.returns-then-m-eq3
-returns-then-m-eq3 c = sym (refused-20 c.args.m c.args.room c.if-m-eq3.true)
+returns-then-m-eq3 c =
+    let a = c.args in
+    c.kind_refusal.ensures ∙ ap kind_refusal c.if-m-eq3.true ∙ sym (refused-20 a.m a.room c.if-m-eq3.true)
 
 pub returns-then-not-message_fits : goal.returns-then-not-message_fits
 returns-then-not-message_fits c =
