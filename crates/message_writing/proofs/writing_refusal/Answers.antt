@@ -13,7 +13,8 @@ use Rattle.message_writing.proofs.writing_refusal.Goals.{After-bytes_for}
 pub returns-then-m-eq3 : goal.returns-then-m-eq3
 returns-then-m-eq3 c =
     let a = c.args in
-    c.kind_refusal.ensures ∙ ap kind_refusal c.if-m-eq3.true ∙ sym (refused-20 a.m a.room c.if-m-eq3.true)
+    let told : kind_refusal a.m.kind ≡ 20 = ap kind_refusal c.if-m-eq3.true in
+    omega (arith, c.kind_refusal.ensures, told, refused-20 a.m a.room c.if-m-eq3.true)
 
 pub returns-then-not-message_fits : goal.returns-then-not-message_fits
 returns-then-not-message_fits c =
