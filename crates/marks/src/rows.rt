@@ -69,8 +69,8 @@ pub fn row_refusal(
     Ok(())
 }
 
-// The day's part of a side's own table, the day's length long; empty where `row_refusal` refuses it. The tables are lent apart: the row is a part of a
-// side's table and outlives what is lent as `held`, where those of a view live alike.
+// The day's part of a side's own table, the day's length long; empty where `row_refusal` refuses it. The tables are lent apart, so that the
+// row, a part of a side, does not keep `held` lent: a view lends all three for one lifetime.
 pub fn row<'a>(
     b: Book,
     held: &[u32],
